@@ -1,5 +1,5 @@
 -- What stays where a frame comes to a processor, or leaves it.
-use Rattle.std.proofs.Common.{if◌then◌else◌, ◌≡◌, ◌≢◌, ℕ, ◌+◌, Bool, true, false, not, ◌==◌, ◌||◌, List, [], ◌∷◌, ◌++◌, drop, filter, map, Option, Some, None, refl, ap, sym, subst, ◌∙◌, arith}
+use Rattle.std.proofs.Common.{if◌then◌else◌, ◌≡◌, ◌≢◌, ◌≤◌, ℕ, ◌+◌, Bool, true, false, not, ◌==◌, ◌||◌, List, [], ◌∷◌, ◌++◌, drop, filter, map, Option, Some, None, refl, ap, sym, subst, ◌∙◌, arith}
 use Rattle.std.proofs.lemmas.Bool.{eqb-true}
 use Rattle.std.specs.List.{flat_map, list_all}
 use Rattle.wdf_base.specs.Meaning.{Meaning}
@@ -7,17 +7,21 @@ use Rattle.wdf_base.specs.declared.plan.Plan.{Plan}
 use Rattle.wdf_base.specs.declared.event.Event.{Event}
 use Rattle.wdf_base.specs.declared.frame.Frame.{Frame}
 use Rattle.wdf_model.specs.State.{State}
-use Rattle.wdf_model.specs.Tables.{contains, entry}
+use Rattle.wdf_model.specs.Tables.{contains, entry, first_of_list, flag}
 use Rattle.wdf_model.specs.declared.deed.Deed.{Deed}
 use Rattle.wdf_model.specs.declared.entries.HeldLevel.{HeldLevel}
 use Rattle.wdf_model.specs.parts.Cpus as cpus
 use Rattle.wdf_model.specs.parts.Cpus.{Cpus, levels_without, no_frame, running, stack_of, top, without_frame}
 use Rattle.wdf_model.specs.rules.Deeds.{counted, do_deed, do_deeds}
-use Rattle.wdf_model.proofs.Counts.{equal, not_equal}
+use Rattle.wdf_model.proofs.Counts.{count_behind, equal, not_equal}
+use Rattle.wdf_model.proofs.FrameCounts.{contained, on}
 use Rattle.wdf_model.proofs.Maps.{entry_put_other}
 use Rattle.wdf_model.proofs.Tests.{either_false}
 use Rattle.law_machine_counts.proofs.StepStates.{in_turn}
-use Rattle.law_touched.specs.Touched.{Orderly, Piece, ObjectTree, Processor, TopFrame, TopWait, RunningObjects, WaitedObjects, ParkedFrames, HeldLocks, AgentStates, changed_by, changed_on, has_piece}
+use Rattle.law_machine_base.specs.OverRuns.{FramesAgree}
+use Rattle.law_machine_counts.proofs.FrameMoves.{pop_on}
+use Rattle.law_machine_lives.proofs.ReasonsOfEvents.{off_by_top, top_on}
+use Rattle.law_touched.specs.Touched.{Piece, Processor, TopFrame, TopWait, RunningObjects, WaitedObjects, ParkedFrames, AgentStates, changed_by, changed_on, has_piece}
 use Rattle.law_touched.proofs.Fields.{all_quiet_by, is_quiet}
 use Rattle.law_touched.proofs.Frames.{Beside, IsAlone, other_processor, other_top, other_wait, parked_stay}
 use Rattle.law_touched.proofs.Pieces.{parts_stay}
@@ -64,20 +68,35 @@ module _ (C : Cpus) (cpu : ℕ) where
 
 -- ---- frames that are alone
 
-module _ {A : Type 0} (S : State A) (orderly : Orderly S) where
+-- a frame that is there once is on top of one processor
+two_tops : (C : Cpus) (a b f : ℕ) → on C f ≤ 1 → top C a ≡ Some f → top C b ≡ Some f → a ≢ b → ⊥
+two_tops C a b f once ta tb n =
+    let still : top (cpus.pop C a) b ≡ Some f = ap first_of_list (entry_put_other [] C.stacks a b (drop 1 (stack_of C a)) (λ same. n (sym same))) ∙ tb in
+    let left = top_on (cpus.pop C a) b f still in
+    let went = pop_on C a f ta f in
+    let it : flag (f == f) ≡ 1 = ap flag (equal f f refl) in
+    omega arith
+
+parked_on : (C : Cpus) (f : ℕ) → contains f C.parked ≡ true → 1 ≤ on C f
+parked_on C f is =
+    let some = contained f C.parked is in
+    let all = count_behind (λ x. x == f) (flat_map (λ fs. fs) C.stacks) C.parked in
+    omega arith
+
+module _ {A : Type 0} (S : State A) (agree : FramesAgree S) where
   pub top_alone : (cpu f : ℕ) → top S.cpus cpu ≡ Some f → IsAlone cpu f S.cpus
   top_alone cpu f at = record {
-    tops = λ b x other there same. other (orderly.tops b cpu f (there ∙ ap Some same) at);
+    tops = λ b x other there same. two_tops S.cpus b cpu f (agree.once f) (there ∙ ap Some same) at other;
     parked = λ x is same.
-        let no : contains f S.cpus.parked ≡ false = orderly.running cpu f at in
+        let no : contains f S.cpus.parked ≡ false = off_by_top S.cpus cpu f at (agree.once f) in
         let yes : contains f S.cpus.parked ≡ true = sym (ap (λ y. contains y S.cpus.parked) same) ∙ is in
         let z : ⊥ = cc in z;
   }
 
   pub new_alone : (cpu : ℕ) → IsAlone cpu (S.number + 1) S.cpus
   new_alone cpu = record {
-    tops = λ b x other there same. let low = orderly.numbered b x there in omega arith;
-    parked = λ x is same. let low = orderly.parked x is in omega arith;
+    tops = λ b x other there same. let low = agree.numbered x (top_on S.cpus b x there) in omega arith;
+    parked = λ x is same. let low = agree.numbered x (parked_on S.cpus x is) in omega arith;
   }
 
 -- ---- what stays
@@ -85,6 +104,10 @@ module _ {A : Type 0} (S : State A) (orderly : Orderly S) where
 module _ {A : Type 0} (plan : Plan) (m : Meaning A) (S : State A) (cpu f : ℕ) (e : Event) (ds : List Deed) (lone : IsAlone cpu f S.cpus) (only : Beside cpu f S.cpus (do_deeds plan ds S).cpus) where
   abbrev then_ : State A
   then_ = counted m e (do_deeds plan ds S)
+
+  -- what no deed changes isn't among these
+  abbrev has_all : List Piece → Type 0
+  has_all pieces = (p : Piece) → has_piece p (flat_map (changed_by cpu) ds) ≡ false → has_piece p pieces ≡ false
 
   -- where the event's list begins with what changes on a processor
   pub comes_stay : S.cpus.parked ≡ (do_deeds plan ds S).cpus.parked → (p : Piece) → has_piece p (changed_on cpu ++ AgentStates ∷ flat_map (changed_by cpu) ds) ≡ false → Same p S then_
@@ -97,17 +120,16 @@ module _ {A : Type 0} (plan : Plan) (m : Meaning A) (S : State A) (cpu f : ℕ) 
   comes_stay parked AgentStates h = absurd (let z : ⊥ = cc in z)
   comes_stay parked p h = parts_stay plan m cpu e ds S p refl h
 
-  -- the same, and the parked frames change
-  pub parks_stay : ((p : Piece) → has_piece p (changed_on cpu ++ ParkedFrames ∷ []) ≡ false → has_piece p (flat_map (changed_by cpu) ds) ≡ false)
-      → (p : Piece) → has_piece p (changed_on cpu ++ ParkedFrames ∷ AgentStates ∷ []) ≡ false → Same p S then_
-  parks_stay none (Processor b) h = other_processor S then_ cpu f only lone b (apart_from b cpu _ h)
-  parks_stay none (TopFrame b) h = other_top S then_ cpu f only lone b (apart_from b cpu _ h)
-  parks_stay none (TopWait b) h = other_wait S then_ cpu f only lone b (apart_from b cpu _ h)
-  parks_stay none RunningObjects h = absurd (let z : ⊥ = cc in z)
-  parks_stay none WaitedObjects h = absurd (let z : ⊥ = cc in z)
-  parks_stay none ParkedFrames h = absurd (let z : ⊥ = cc in z)
-  parks_stay none AgentStates h = absurd (let z : ⊥ = cc in z)
-  parks_stay none p h = parts_stay plan m cpu e ds S p refl (none p refl)
+  -- where it leaves each frame on its object, and waiting, and parks one or brings it back
+  pub parks_stay : Same RunningObjects S then_ → Same WaitedObjects S then_ → has_all (Processor cpu ∷ TopFrame cpu ∷ TopWait cpu ∷ ParkedFrames ∷ []) → (p : Piece) → has_piece p (AgentStates ∷ flat_map (changed_by cpu) ds) ≡ false → Same p S then_
+  parks_stay objects waited is (Processor b) h = other_processor S then_ cpu f only lone b (apart_from b cpu _ (is (Processor b) h))
+  parks_stay objects waited is (TopFrame b) h = other_top S then_ cpu f only lone b (apart_from b cpu _ (is (TopFrame b) h))
+  parks_stay objects waited is (TopWait b) h = other_wait S then_ cpu f only lone b (apart_from b cpu _ (is (TopWait b) h))
+  parks_stay objects waited is RunningObjects h = objects
+  parks_stay objects waited is WaitedObjects h = waited
+  parks_stay objects waited is ParkedFrames h = absurd (let none = is ParkedFrames h in let z : ⊥ = cc in z)
+  parks_stay objects waited is AgentStates h = absurd (let z : ⊥ = cc in z)
+  parks_stay objects waited is p h = parts_stay plan m cpu e ds S p refl h
 
 -- ---- the processors after deeds of which one is of theirs
 

@@ -1,5 +1,5 @@
 -- What an event leaves as it was: each piece of the state that isn't in its row.
-use Rattle.std.proofs.Common.{if◌then◌else◌, ◌≡◌, ℕ, ◌+◌, Bool, true, false, ◌||◌, List, [], ◌∷◌, ◌++◌, Option, Some, None, refl, ap, sym, subst, ◌∙◌}
+use Rattle.std.proofs.Common.{if◌then◌else◌, ◌≡◌, ℕ, ◌+◌, Bool, true, false, ◌==◌, ◌&&◌, ◌||◌, List, [], ◌∷◌, ◌++◌, Option, Some, None, refl, ap, sym, subst, ◌∙◌}
 use Rattle.std.specs.List.{flat_map, list_all}
 use Rattle.wdf_base.specs.Meaning.{Meaning}
 use Rattle.wdf_base.specs.Callbacks.{row_of}
@@ -27,25 +27,29 @@ use Rattle.wdf_model.specs.State.{State, declared_in}
 use Rattle.wdf_model.specs.declared.deed.Deed.{Deed}
 use Rattle.wdf_model.specs.declared.deed.Deed.TheVariants.{GoOn, PopFrame, PushFrame}
 use Rattle.wdf_model.specs.parts.Cpus as cpus
-use Rattle.wdf_model.specs.parts.Cpus.{Cpus, frame_of, top}
+use Rattle.wdf_model.specs.parts.Cpus.{Cpus, frame_of, irql, is_empty_cpu, top}
 use Rattle.wdf_model.specs.parts.Locks.{lock_of_callback}
 use Rattle.wdf_model.specs.rules.Calls.{outcome, second_deeds}
 use Rattle.wdf_model.specs.rules.Deeds.{counted, do_deeds, told}
 use Rattle.wdf_model.specs.rules.Posts.{post_deeds}
 use Rattle.wdf_model.specs.rules.Script.{intent_of, statement_at}
 use Rattle.wdf_model.specs.rules.Starts.{end_of_step, new_frame, next_number, release_if_any, stage_deeds, start_effect, take_if_any}
-use Rattle.wdf_model.specs.rules.Steps.{after, answered, at_next, by_top, changed as frame_changed, deeds, did_deeds, event_of_top, goes_on, is_own_event, may, own_event, spending, stepped, waiting, waiting_deeds, woke_deeds}
-use Rattle.wdf_model.proofs.Tests.{either_false}
+use Rattle.wdf_model.specs.rules.Steps.{after, answered, at_next, by_top, changed as frame_changed, deeds, did_deeds, event_of_top, goes_on, is_cpu, is_own_event, may, may_park, may_unpark, own_event, spending, stepped, wait_is_over, waiting, waiting_deeds, waits_on, woke_deeds}
+use Rattle.wdf_model.specs.Tables.{contains, same_id}
+use Rattle.wdf_model.proofs.FrameCounts.{parked_once, parks, unparks}
+use Rattle.wdf_model.proofs.Tests.{both_left, both_right, either_false}
 use Rattle.law_machine_counts.proofs.FrameMoves.{FrameKept}
+use Rattle.law_machine_base.specs.OverRuns.{FramesAgree}
 use Rattle.law_machine_base.proofs.OwnEvents.{IsDid, did_tells}
 use Rattle.law_machine_counts.proofs.NextFrames.{answered_kept, goes_on_kept, stepped_kept}
+use Rattle.law_machine_counts.proofs.StepTable.{top_is}
 use Rattle.law_machine_lives.proofs.LevelEvents.{idle_at}
 use Rattle.law_machine_lives.proofs.ReasonsOfEvents.{spending_kept}
-use Rattle.law_touched.specs.Touched.{Orderly, Piece, Processor, TopFrame, TopWait, RunningObjects, WaitedObjects, ParkedFrames, AgentStates, changed, changed_by, has_piece, same_piece}
+use Rattle.law_touched.specs.Touched.{Piece, Processor, TopFrame, TopWait, RunningObjects, WaitedObjects, ParkedFrames, AgentStates, changed, changed_by, has_piece, same_piece}
 use Rattle.law_touched.proofs.Comes.{between_quiet, comes_stay, new_alone, park_beside, parks_stay, pop_beside, push_beside, top_alone, unpark_beside}
 use Rattle.law_touched.proofs.Deeds.{all_quiet, did_frames, did_of, outcome_of, post_quiet, releasing_quiet, second_of, stage_quiet, start_quiet, step_quiet, taking_quiet, waiting_frames, woke_frames}
 use Rattle.law_touched.proofs.Fields.{all_quiet_by, is_of_frame}
-use Rattle.law_touched.proofs.Frames.{Beside, still_frames, still_objects, still_processor, still_waits}
+use Rattle.law_touched.proofs.Frames.{Beside, objects_move, still_frames, still_objects, still_processor, still_waits, waited_move}
 use Rattle.law_touched.proofs.Goes.{idle_stays, wait_stays}
 use Rattle.law_touched.proofs.Pieces.{parts_stay}
 use Rattle.law_touched.proofs.Same.{Same}
@@ -100,7 +104,7 @@ module _ {A : Type 0} (plan : Plan) (m : Meaning A) (S : State A) where
     | Some x ↦ does x (frame_of S.cpus x)
   ]) at
 
-  module _ (orderly : Orderly S) where
+  module _ (agree : FramesAgree S) where
     -- ---- events inside a frame
 
     module _ (k : Cpu) (f : ℕ) (at : top S.cpus k.0 ≡ Some f) (e : Event) (frame : Frame) (kept : FrameKept (frame_of S.cpus f) frame) (pending : (frame_of S.cpus f).pending ≡ frame.pending) where
@@ -109,7 +113,7 @@ module _ {A : Type 0} (plan : Plan) (m : Meaning A) (S : State A) where
 
       inside : (p : Piece) → same_piece p AgentStates ≡ false → has_piece p (TopFrame k.0 ∷ []) ≡ false → Same p S (counted m e (do_deeds plan ds S))
       inside p a h =
-          idle_stays plan m S k.0 f (top_alone S orderly k.0 f at) e [] frame kept refl refl pending p (let none = either_false (same_piece p (TopFrame k.0)) false h in none.0) a h
+          idle_stays plan m S k.0 f (top_alone S agree k.0 f at) e [] frame kept refl refl pending p (let none = either_false (same_piece p (TopFrame k.0)) false h in none.0) a h
 
       -- the agents don't hear of it
       unheard : ((agents : List A) → agents ≡ told m e agents) → (p : Piece) → has_piece p (TopFrame k.0 ∷ []) ≡ false → Same p S (counted m e (do_deeds plan ds S))
@@ -133,7 +137,7 @@ module _ {A : Type 0} (plan : Plan) (m : Meaning A) (S : State A) where
       did_stays e v none p h =
           let one = either_false (same_piece p (TopFrame k.0)) (has_piece p (AgentStates ∷ flat_map (changed_by k.0) (did_deeds plan S k.0 c v f (frame_of S.cpus f)))) h in
           let two = either_false (same_piece p AgentStates) (has_piece p (flat_map (changed_by k.0) (did_deeds plan S k.0 c v f (frame_of S.cpus f)))) one.1 in
-          idle_stays plan m S k.0 f (top_alone S orderly k.0 f at) e ((outcome plan S k.0 f c).deeds ++ second_deeds f c) (answered plan (frame_of S.cpus f) v) (answered_kept plan (frame_of S.cpus f) v)
+          idle_stays plan m S k.0 f (top_alone S agree k.0 f at) e ((outcome plan S k.0 f c).deeds ++ second_deeds f c) (answered plan (frame_of S.cpus f) v) (answered_kept plan (frame_of S.cpus f) v)
           (did_of plan S k.0 f c) (did_frames plan S k.0 f c) none p one.0 two.0 two.1
 
       waits_by : (e : Event) (before : List Deed) (frame : Frame) → FrameKept (frame_of S.cpus f) frame → list_all (is_of_frame f) before ≡ true → has_piece (TopFrame k.0) (flat_map (changed_by k.0) before) ≡ false
@@ -144,7 +148,7 @@ module _ {A : Type 0} (plan : Plan) (m : Meaning A) (S : State A) where
           let two = either_false (same_piece p (TopWait k.0)) (has_piece p (WaitedObjects ∷ AgentStates ∷ rest)) one.1 in
           let three = either_false (same_piece p WaitedObjects) (has_piece p (AgentStates ∷ rest)) two.1 in
           let four = either_false (same_piece p AgentStates) (has_piece p rest) three.1 in
-          wait_stays plan m S k.0 f (top_alone S orderly k.0 f at) e before frame kept only no_frame p one.0 two.0 three.0 four.0 four.1
+          wait_stays plan m S k.0 f (top_alone S agree k.0 f at) e before frame kept only no_frame p one.0 two.0 three.0 four.0 four.1
 
     -- ---- each kind of event
 
@@ -208,7 +212,7 @@ module _ {A : Type 0} (plan : Plan) (m : Meaning A) (S : State A) where
         let pushed : cpus.push S.cpus k.0 (next_number S) frame level ≡ (do_deeds plan (deeds plan S (event.Start k c o r)) S).cpus =
         between_quiet plan S (λ C. cpus.push C k.0 (next_number S) frame level) (start_effect plan S k.0 c o.id.0 r) taking (PushFrame (cpu_of k.0) (frame_id (next_number S)) frame (irql_of level)) (λ U. refl)
         (start_quiet plan S k.0 c o.id.0 r) (taking_quiet (next_number S) (lock_of_callback plan c o.id.0 (declared_in plan S o.id.0))) in
-        comes_stay plan m S k.0 (S.number + 1) (event.Start k c o r) (deeds plan S (event.Start k c o r)) (new_alone S orderly k.0)
+        comes_stay plan m S k.0 (S.number + 1) (event.Start k c o r) (deeds plan S (event.Start k c o r)) (new_alone S agree k.0)
         (subst (λ C. Beside k.0 (S.number + 1) S.cpus C) pushed (push_beside S.cpus k.0 (S.number + 1) frame level)) (ap (λ (C : Cpus). C.parked) pushed)
 
     end_stays : (k : Cpu) (c : Callback) (o : Handle) (v : Value) → is_own_event plan m S k (event.End k c o v) ≡ true → Stays (event.End k c o v)
@@ -217,14 +221,23 @@ module _ {A : Type 0} (plan : Plan) (m : Meaning A) (S : State A) where
         let lock = lock_of_callback plan c o.id.0 (declared_in plan S o.id.0) in
         let popped : cpus.pop S.cpus k.0 ≡ (do_deeds plan (deeds plan S (event.End k c o v)) S).cpus =
         between_quiet plan S (λ C. cpus.pop C k.0) (release_if_any lock) (end_of_step plan S (row_of c).rank c o.id.0 v) (PopFrame (cpu_of k.0)) (λ U. refl) (releasing_quiet lock) (step_quiet plan S (row_of c).rank c o.id.0 v) in
-        comes_stay plan m S k.0 t.0 (event.End k c o v) (deeds plan S (event.End k c o v)) (top_alone S orderly k.0 t.0 t.1)
+        comes_stay plan m S k.0 t.0 (event.End k c o v) (deeds plan S (event.End k c o v)) (top_alone S agree k.0 t.0 t.1)
         (subst (λ C. Beside k.0 t.0 S.cpus C) popped (pop_beside S.cpus k.0 t.0 t.1)) (ap (λ (C : Cpus). C.parked) popped)
 
-    park_stays : (k : Cpu) (f : FrameId) → Stays (event.Park k f)
-    park_stays k f = parks_stay plan m S k.0 (S.number + 1) (event.Park k f) (deeds plan S (event.Park k f)) (new_alone S orderly k.0) (park_beside S.cpus k.0 (S.number + 1)) (λ p h. h)
+    park_stays : (k : Cpu) (f : FrameId) → may_park S k.0 f.0 ≡ true → Stays (event.Park k f)
+    park_stays k f h =
+        let T = after plan m S (event.Park k f) in
+        let at : top S.cpus k.0 ≡ Some f.0 = top_is (top S.cpus k.0) f.0 (both_left (same_id (top S.cpus k.0) f.0) (irql S.cpus k.0 == 0) (both_left (same_id (top S.cpus k.0) f.0 && irql S.cpus k.0 == 0) (waits_on S (frame_of S.cpus f.0).pending) h)) in
+        parks_stay plan m S k.0 (S.number + 1) (event.Park k f) (deeds plan S (event.Park k f)) (new_alone S agree k.0) (park_beside S.cpus k.0 (S.number + 1))
+        (objects_move S T refl (λ p. parks p S.cpus k.0 f.0 at)) (waited_move S T refl (λ p. parks p S.cpus k.0 f.0 at)) (λ p none. none)
 
-    unpark_stays : (k : Cpu) (f : FrameId) → Stays (event.Unpark k f)
-    unpark_stays k f = parks_stay plan m S k.0 (S.number + 1) (event.Unpark k f) (deeds plan S (event.Unpark k f)) (new_alone S orderly k.0) (unpark_beside S.cpus k.0 (S.number + 1) f.0) (λ p h. h)
+    unpark_stays : (k : Cpu) (f : FrameId) → may_unpark S k.0 f.0 ≡ true → Stays (event.Unpark k f)
+    unpark_stays k f h =
+        let T = after plan m S (event.Unpark k f) in
+        let there : contains f.0 S.cpus.parked ≡ true = both_left (contains f.0 S.cpus.parked) (is_empty_cpu S.cpus k.0) (both_left (contains f.0 S.cpus.parked && is_empty_cpu S.cpus k.0) (wait_is_over S (frame_of S.cpus f.0).pending) h) in
+        let once = parked_once S.cpus f.0 (agree.once f.0) there in
+        parks_stay plan m S k.0 (S.number + 1) (event.Unpark k f) (deeds plan S (event.Unpark k f)) (new_alone S agree k.0) (unpark_beside S.cpus k.0 (S.number + 1) f.0)
+        (objects_move S T refl (λ p. unparks p S.cpus k.0 f.0 once)) (waited_move S T refl (λ p. unparks p S.cpus k.0 f.0 once)) (λ p none. none)
 
     pub tick_stays : (time : ℕ) → Stays (event.Tick time)
     tick_stays time = quiet_stays 0 (event.Tick time) (deeds plan S (event.Tick time)) refl
@@ -239,8 +252,8 @@ module _ {A : Type 0} (plan : Plan) (m : Meaning A) (S : State A) where
     stays (event.Did k c v) h = call_stays k c v h
     stays (event.Waiting k c) h = waiting_stays k c h
     stays (event.Woke k c v) h = woke_stays k c v h
-    stays (event.Park k f) h = park_stays k f
-    stays (event.Unpark k f) h = unpark_stays k f
+    stays (event.Park k f) h = park_stays k f h
+    stays (event.Unpark k f) h = unpark_stays k f (both_right (is_cpu plan k) (may_unpark S k.0 f.0) h)
     stays (event.End k c o v) h = end_stays k c o v h
     stays (event.Fault k x line) h = quiet_stays 0 (event.Fault k x line) [] refl
     stays (event.Stage d s i) h = quiet_stays 0 (event.Stage d s i) (deeds plan S (event.Stage d s i)) (stage_quiet plan d.id.0 s i)

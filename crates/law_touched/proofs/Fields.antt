@@ -328,24 +328,6 @@ module _ {A : Type 0} (plan : Plan) (cpu : ℕ) where
   clock_by deed.PassTick S h = absurd (let z : ⊥ = cc in z)
   clock_by _ S h = refl
 
-  -- stacks
-  pub stacks_by : (d : Deed) (S : State A) → has_piece (Processor cpu) (changed_by cpu d) ≡ false → S.cpus.stacks ≡ (do_deed plan d S).cpus.stacks
-  stacks_by (deed.Arrive device info p) S h = arrives (λ (S : State A). S.cpus.stacks) (λ S T R. refl) (λ S Q K. refl) S device.0 info p
-  stacks_by (deed.AskDeletion o) S h = asks (λ (S : State A). S.cpus.stacks) (λ S T D W M. refl) (subtree S.tree o.0) S
-  stacks_by (deed.PushFrame on f frame level) S h = absurd (it_is_there cpu h)
-  stacks_by (deed.PopFrame on) S h = absurd (it_is_there cpu h)
-  stacks_by (deed.ParkFrame on) S h = absurd (it_is_there cpu h)
-  stacks_by (deed.UnparkFrame on f) S h = absurd (it_is_there cpu h)
-  stacks_by (deed.Requeue r q) S h = gives (λ (S : State A). S.cpus.stacks) (λ S Q P. refl) r.0 S
-  stacks_by (deed.Forward r q) S h = gives (λ (S : State A). S.cpus.stacks) (λ S Q P. refl) r.0 S
-  stacks_by (deed.GiveBack r q) S h = gives (λ (S : State A). S.cpus.stacks) (λ S Q P. refl) r.0 S
-  stacks_by (deed.SendRequest r t forget) S h = gives_if (λ (S : State A). S.cpus.stacks) (λ S Q P. refl) forget r.0 S
-  stacks_by (deed.CompleteRequest r) S h = gives (λ (S : State A). S.cpus.stacks) (λ S Q P. refl) r.0 S ∙ asks (λ (S : State A). S.cpus.stacks) (λ S T D W M. refl) (subtree (give_up S r.0).tree r.0) (record (give_up S r.0) { requests = requests.complete S.requests r.0 })
-  stacks_by (deed.PurgeQueue q) S h = each (λ (S : State A). S.cpus.stacks) (withdraw plan q.0) (λ S r. refl) (waiting_in S.queues q.0) (record S { control = control.set_mode S.control q.0 mode.Purged })
-  stacks_by (deed.CloseReturning d) S h = each (λ (S : State A). S.cpus.stacks) close_returning (λ S q. refl) (managed_queues plan d.0) S
-  stacks_by (deed.CloseDevice d) S h = each (λ (S : State A). S.cpus.stacks) close_queue (λ S q. refl) (queues_of plan d.0) (record S { control = control.shut S.control d.0 })
-  stacks_by _ S h = refl
-
   -- levels
   pub levels_by : (d : Deed) (S : State A) → has_piece (Processor cpu) (changed_by cpu d) ≡ false → S.cpus.levels ≡ (do_deed plan d S).cpus.levels
   levels_by (deed.Arrive device info p) S h = arrives (λ (S : State A). S.cpus.levels) (λ S T R. refl) (λ S Q K. refl) S device.0 info p
@@ -413,22 +395,6 @@ module _ {A : Type 0} (plan : Plan) (cpu : ℕ) where
   parked_at_by (deed.CloseReturning d) S h = each (λ (S : State A). S.cpus.parked) close_returning (λ S q. refl) (managed_queues plan d.0) S
   parked_at_by (deed.CloseDevice d) S h = each (λ (S : State A). S.cpus.parked) close_queue (λ S q. refl) (queues_of plan d.0) (record S { control = control.shut S.control d.0 })
   parked_at_by _ S h = refl
-
-  -- parked
-  pub parked_by : (d : Deed) (S : State A) → has_piece ParkedFrames (changed_by cpu d) ≡ false → S.cpus.parked ≡ (do_deed plan d S).cpus.parked
-  parked_by (deed.Arrive device info p) S h = arrives (λ (S : State A). S.cpus.parked) (λ S T R. refl) (λ S Q K. refl) S device.0 info p
-  parked_by (deed.AskDeletion o) S h = asks (λ (S : State A). S.cpus.parked) (λ S T D W M. refl) (subtree S.tree o.0) S
-  parked_by (deed.ParkFrame on) S h = absurd (let z : ⊥ = cc in z)
-  parked_by (deed.UnparkFrame on f) S h = absurd (let z : ⊥ = cc in z)
-  parked_by (deed.Requeue r q) S h = gives (λ (S : State A). S.cpus.parked) (λ S Q P. refl) r.0 S
-  parked_by (deed.Forward r q) S h = gives (λ (S : State A). S.cpus.parked) (λ S Q P. refl) r.0 S
-  parked_by (deed.GiveBack r q) S h = gives (λ (S : State A). S.cpus.parked) (λ S Q P. refl) r.0 S
-  parked_by (deed.SendRequest r t forget) S h = gives_if (λ (S : State A). S.cpus.parked) (λ S Q P. refl) forget r.0 S
-  parked_by (deed.CompleteRequest r) S h = gives (λ (S : State A). S.cpus.parked) (λ S Q P. refl) r.0 S ∙ asks (λ (S : State A). S.cpus.parked) (λ S T D W M. refl) (subtree (give_up S r.0).tree r.0) (record (give_up S r.0) { requests = requests.complete S.requests r.0 })
-  parked_by (deed.PurgeQueue q) S h = each (λ (S : State A). S.cpus.parked) (withdraw plan q.0) (λ S r. refl) (waiting_in S.queues q.0) (record S { control = control.set_mode S.control q.0 mode.Purged })
-  parked_by (deed.CloseReturning d) S h = each (λ (S : State A). S.cpus.parked) close_returning (λ S q. refl) (managed_queues plan d.0) S
-  parked_by (deed.CloseDevice d) S h = each (λ (S : State A). S.cpus.parked) close_queue (λ S q. refl) (queues_of plan d.0) (record S { control = control.shut S.control d.0 })
-  parked_by _ S h = refl
 
   -- ---- lists of deeds
 

@@ -1,5 +1,5 @@
 -- The pieces of the processors that stay where only one frame, and only one processor, changes.
-use Rattle.std.proofs.Common.{if◌then◌else◌, ◌≡◌, ◌≢◌, ℕ, max, Bool, true, false, not, ◌==◌, ◌&&◌, List, [], ◌∷◌, ◌++◌, length, map, filter, fold, ◌⊎◌, inl, inr, Option, Some, None, refl, ap, sym, ◌∙◌}
+use Rattle.std.proofs.Common.{if◌then◌else◌, ◌≡◌, ◌≢◌, ℕ, zero, suc, max, Bool, true, false, not, ◌==◌, ◌&&◌, ◌||◌, count_by, List, [], ◌∷◌, ◌++◌, length, map, filter, fold, ◌⊎◌, inl, inr, Option, Some, None, refl, ap, sym, ◌∙◌}
 use Rattle.std.specs.List.{flat_map, list_any}
 use Rattle.wdf_base.specs.Same.{same_callback}
 use Rattle.wdf_base.specs.declared.call.Callback.{Callback}
@@ -7,10 +7,10 @@ use Rattle.wdf_base.specs.declared.frame.Frame.{Frame}
 use Rattle.wdf_model.specs.declared.entries.HeldLevel.{HeldLevel}
 use Rattle.wdf_model.specs.declared.entries.Running.{Running}
 use Rattle.wdf_model.specs.State.{State, waits_for}
-use Rattle.wdf_model.specs.Tables.{contains, first_of_list}
+use Rattle.wdf_model.specs.Tables.{contains, entry, first_of_list}
 use Rattle.wdf_model.specs.parts.Cpus as cpus
 use Rattle.wdf_model.specs.parts.Cpus.{Cpus, all_frames, frame_level, frame_of, is_running, level_of_top, levels_of, no_frame, nobody_on, running, stack_of, top}
-use Rattle.wdf_model.proofs.Counts.{one_or_two}
+use Rattle.wdf_model.proofs.Counts.{count_no, count_yes, one_or_two}
 use Rattle.wdf_model.proofs.Maps.{entry_put_other, entry_put_same}
 use Rattle.law_touched.specs.Touched.{Processor, TopFrame, TopWait, RunningObjects, WaitedObjects, ParkedFrames}
 use Rattle.law_touched.proofs.Same.{Same}
@@ -80,6 +80,46 @@ module _ {A : Type 0} (S T : State A) (calm : Calm S.cpus T.cpus) where
 
     pub waits_stay : (b : ℕ) → Same (TopWait b) S T
     waits_stay b = λ x at. pending x
+
+-- ---- frames that move
+
+-- how many items pass a test says whether some do
+abbrev is_more : ℕ → Bool
+is_more zero = false
+is_more (suc n) = true
+
+any_by : {T : Type 0} (p : T → Bool) (x : T) (xs : List T) (b : Bool) → p x ≡ b → list_any p xs ≡ is_more (count_by p xs) → list_any p (x ∷ xs) ≡ is_more (count_by p (x ∷ xs))
+any_by p x xs true e rest = ap (λ b. b || list_any p xs) e ∙ sym (ap is_more (count_yes p x xs e))
+any_by p x xs false e rest = ap (λ b. b || list_any p xs) e ∙ rest ∙ sym (ap is_more (count_no p x xs e))
+
+any_counts : {T : Type 0} (p : T → Bool) (xs : List T) → list_any p xs ≡ is_more (count_by p xs)
+any_counts p [] = refl
+any_counts p (x ∷ xs) = any_by p x xs (p x) refl (any_counts p xs)
+
+filter_by : {T : Type 0} (p : T → Bool) (x : T) (xs : List T) (b : Bool) → p x ≡ b → length (filter p xs) ≡ count_by p xs → length (filter p (x ∷ xs)) ≡ count_by p (x ∷ xs)
+filter_by p x xs true e rest = ap (λ b. length (if b then x ∷ filter p xs else filter p xs)) e ∙ ap suc rest ∙ sym (count_yes p x xs e)
+filter_by p x xs false e rest = ap (λ b. length (if b then x ∷ filter p xs else filter p xs)) e ∙ rest ∙ sym (count_no p x xs e)
+
+filter_counts : {T : Type 0} (p : T → Bool) (xs : List T) → length (filter p xs) ≡ count_by p xs
+filter_counts p [] = refl
+filter_counts p (x ∷ xs) = filter_by p x xs (p x) refl (filter_counts p xs)
+
+-- the frames are the same, and each is there as often
+module _ {A : Type 0} (S T : State A) (frames : S.cpus.frames ≡ T.cpus.frames) (counted : (p : ℕ → Bool) → count_by p (all_frames T.cpus) ≡ count_by p (all_frames S.cpus)) where
+  any_moved : (p : ℕ → Bool) → list_any p (all_frames S.cpus) ≡ list_any p (all_frames T.cpus)
+  any_moved p = any_counts p (all_frames S.cpus) ∙ sym (ap is_more (counted p)) ∙ sym (any_counts p (all_frames T.cpus))
+
+  on_moved : (p : ℕ → Bool) → length (filter p (all_frames S.cpus)) ≡ length (filter p (all_frames T.cpus))
+  on_moved p = filter_counts p (all_frames S.cpus) ∙ sym (counted p) ∙ sym (filter_counts p (all_frames T.cpus))
+
+  pub objects_move : Same RunningObjects S T
+  objects_move = (
+    (λ o. ap (λ n. n == 0) (on_moved (λ x. (frame_of S.cpus x).object.id.0 == o)) ∙ (λ i. length (filter (λ x. (entry no_frame (frames i) x).frame.object.id.0 == o) (all_frames T.cpus)) == 0)),
+    (λ c d. any_moved (λ x. same_callback (frame_of S.cpus x).callback c && (frame_of S.cpus x).device.id.0 == d)
+    ∙ (λ i. list_any (λ x. same_callback (entry no_frame (frames i) x).frame.callback c && (entry no_frame (frames i) x).frame.device.id.0 == d) (all_frames T.cpus))))
+
+  pub waited_move : Same WaitedObjects S T
+  waited_move = λ o. any_moved (λ x. waits_for o (frame_of S.cpus x).pending) ∙ (λ i. list_any (λ x. waits_for o (entry no_frame (frames i) x).frame.pending) (all_frames T.cpus))
 
 -- ---- one frame changes
 

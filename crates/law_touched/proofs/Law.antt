@@ -1,6 +1,7 @@
 -- A group that an event doesn't touch offers the same events before and after it.
-use Rattle.std.proofs.Common.{◌≡◌, ℕ, Bool, true, false, ◌==◌, ◌||◌, List, [], ◌∷◌, ◌++◌, ◌+◌, filter, length, length-append, refl, ap, sym, subst, ◌∙◌}
+use Rattle.std.proofs.Common.{◌≡◌, ℕ, Bool, true, false, ◌==◌, ◌||◌, List, [], ◌∷◌, ◌++◌, ◌+◌, filter, length, length-append, Option, Some, None, refl, ap, sym, subst, ◌∙◌}
 use Rattle.std.proofs.lemmas.List.Elements.{filter-append}
+use Rattle.std.proofs.lemmas.List.Sums.{sum_by-cons}
 use Rattle.std.specs.List.{flat_map, list_any, sum_by}
 use Rattle.wdf_base.specs.Meaning.{Meaning}
 use Rattle.wdf_base.specs.declared.plan.Plan.{Plan}
@@ -16,20 +17,28 @@ use Rattle.wdf_model.specs.declared.enums.Group.TheVariants as group
 use Rattle.wdf_model.specs.rules.Groups.{candidates_in, groups}
 use Rattle.wdf_model.specs.rules.Ready.{allowed}
 use Rattle.wdf_model.specs.rules.Steps.{after, may}
-use Rattle.law_touched.specs.Touched.{Orderly, Piece, TopFrame, changed, has_piece, is_own_of, offers, read_by, read_by_rank, read_for_rank, touches}
+use Rattle.wdf_base.specs.declared.event.Step.TheVariants as step
+use Rattle.law_machine_base.specs.OverRuns.{FramesAgree}
+use Rattle.law_machine_once.specs.Owned.{StepsOwned}
+use Rattle.law_touched.proofs.Ranks.{StepsRanked}
+use Rattle.law_touched.specs.Touched.{Piece, TopFrame, changed, has_piece, is_own_of, offers, read_by, read_by_rank, read_for_rank, touches}
 use Rattle.law_touched.proofs.Events.{stays, tick_stays}
 use Rattle.law_touched.proofs.Groups.{offers_alike}
 use Rattle.law_touched.proofs.Same.{apart}
 
-module _ {A : Type 0} (plan : Plan) (m : Meaning A) (S : State A) (orderly : Orderly S) where
-  pub untouched : (e : Event) → may plan m S e ≡ true → (g : Group) → touches plan S e g ≡ false → offers plan m S g ≡ offers plan m (after plan m S e) g
-  untouched e comes g off = offers_alike plan m S (after plan m S e) g orderly.ranked (λ p is. stays plan m S orderly e comes p (apart (changed plan S e) (read_by g) off p is))
+module _ {A : Type 0} (plan : Plan) (m : Meaning A) (S : State A) (agree : FramesAgree S) (owned : StepsOwned plan S) where
+  ranked : StepsRanked S
+  ranked d c None at = (owned.next d (step.Run c None) at).0
+  ranked d c (Some i) at = (owned.next d (step.Run c (Some i)) at).0
 
-  tick_by : (time : ℕ) (g : Group) → touches plan S (event.Tick time) g ≡ false → offers plan m S g ≡ offers plan m (after plan m S (event.Tick time)) g
-  tick_by time g off = offers_alike plan m S (after plan m S (event.Tick time)) g orderly.ranked (λ p is. tick_stays plan m S orderly time p (apart (changed plan S (event.Tick time)) (read_by g) off p is))
+  pub untouched : (e : Event) → may plan m S e ≡ true → (g : Group) → touches plan S e g ≡ false → offers plan m S g ≡ offers plan m (after plan m S e) g
+  untouched e comes g off = offers_alike plan m S (after plan m S e) g ranked (λ p is. stays plan m S agree e comes p (apart (changed plan S e) (read_by g) off p is))
+
+  pub untouched_by_the_tick : (time : ℕ) (g : Group) → touches plan S (event.Tick time) g ≡ false → offers plan m S g ≡ offers plan m (after plan m S (event.Tick time)) g
+  untouched_by_the_tick time g off = offers_alike plan m S (after plan m S (event.Tick time)) g ranked (λ p is. tick_stays plan m S agree time p (apart (changed plan S (event.Tick time)) (read_by g) off p is))
 
   pub untouched_by_tick : (e : Event) (time : ℕ) → e ≡ event.Tick time → (g : Group) → touches plan S e g ≡ false → offers plan m S g ≡ offers plan m (after plan m S e) g
-  untouched_by_tick e time is g off = subst (λ x. touches plan S x g ≡ false → offers plan m S g ≡ offers plan m (after plan m S x) g) (sym is) (tick_by time g) off
+  untouched_by_tick e time is g off = subst (λ x. touches plan S x g ≡ false → offers plan m S g ≡ offers plan m (after plan m S x) g) (sym is) (untouched_by_the_tick time g) off
 
 -- ---- an event inside a frame
 
@@ -86,7 +95,7 @@ allowed_by_groups plan m S = filter_flat (may plan m S) (candidates_in plan m S)
 
 length_flat : {X Y : Type 0} (f : X → List Y) (xs : List X) → length (flat_map f xs) ≡ sum_by (λ x. length (f x)) xs
 length_flat f [] = refl
-length_flat f (x ∷ xs) = length-append (f x) (flat_map f xs) ∙ ap (λ n. length (f x) + n) (length_flat f xs)
+length_flat f (x ∷ xs) = length-append (f x) (flat_map f xs) ∙ ap (λ n. length (f x) + n) (length_flat f xs) ∙ sym (sum_by-cons (λ y. length (f y)) x xs)
 
 pub allowed_count : {A : Type 0} (plan : Plan) (m : Meaning A) (S : State A) → length (allowed plan m S) ≡ sum_by (λ g. length (offers plan m S g)) (groups plan)
 allowed_count plan m S = ap length (allowed_by_groups plan m S) ∙ length_flat (offers plan m S) (groups plan)

@@ -1,4 +1,4 @@
--- Each state of a run is orderly.
+-- What an event of a run doesn't touch stays.
 use Rattle.std.proofs.Common.{◌≡◌, ◌≢◌, ◌≤◌, ℕ, ◌==◌, ◌+◌, Bool, true, false, List, [], ◌∷◌, ◌++◌, drop, length, take, count_by, slice_get, ◌⊎◌, inl, inr, Option, Some, None, refl, ap, sym, subst, ◌∙◌, arith}
 use Rattle.std.proofs.Math.Seq.{take-length}
 use Rattle.wdf_base.specs.Meaning.{Meaning}
@@ -33,56 +33,20 @@ use Rattle.wdf_model.specs.declared.enums.Group.{Group}
 use Rattle.std.specs.List.{flat_map}
 use Rattle.wdf_base.specs.declared.ids.Cpu.{Cpu}
 use Rattle.wdf_base.specs.declared.value.Value.{Value}
-use Rattle.law_touched.specs.Touched.{Orderly, is_own_of, offers, touches}
+use Rattle.law_touched.specs.Touched.{is_own_of, offers, touches}
 use Rattle.law_touched.proofs.Law.{local_touches, log_touches, untouched, untouched_by_tick}
 
--- a frame that is there once is on top of one processor
-two_tops : (C : Cpus) (a b f : ℕ) → on C f ≤ 1 → top C a ≡ Some f → top C b ≡ Some f → a ≢ b → ⊥
-two_tops C a b f once ta tb n =
-    let still : top (cpus.pop C a) b ≡ Some f = ap first_of_list (entry_put_other [] C.stacks a b (drop 1 (stack_of C a)) (λ same. n (sym same))) ∙ tb in
-    let left = top_on (cpus.pop C a) b f still in
-    let went = pop_on C a f ta f in
-    let it : flag (f == f) ≡ 1 = ap flag (equal f f refl) in
-    omega arith
-
-one_top : (C : Cpus) (a b f : ℕ) → on C f ≤ 1 → top C a ≡ Some f → top C b ≡ Some f → (a ≡ b) ⊎ (a ≢ b) → a ≡ b
-one_top C a b f once ta tb (inl same) = same
-one_top C a b f once ta tb (inr n) = absurd (two_tops C a b f once ta tb n)
-
-parked_on : (C : Cpus) (f : ℕ) → contains f C.parked ≡ true → 1 ≤ on C f
-parked_on C f is =
-    let some = contained f C.parked is in
-    let all : on C f ≡ count_by (λ x. x == f) (stacked C) + count_by (λ x. x == f) C.parked = count_behind (λ x. x == f) (stacked C) C.parked in
-    omega arith
-  where
-    stacked : Cpus → List ℕ
-    stacked D = flat_map (λ fs. fs) D.stacks
-
-module _ {A : Type 0} (plan : Plan) (S : State A) (agree : FramesAgree S) (owned : StepsOwned plan S) where
-  ranked_by : (d : ℕ) (c : Callback) (i : Option Handle) → next_step S.pnp d ≡ Some (step.Run c i) → (row_of c).rank ≡ rank.Sequence
-  ranked_by d c None at = (owned.next d (step.Run c None) at).0
-  ranked_by d c (Some i) at = (owned.next d (step.Run c (Some i)) at).0
-
-  orderly : Orderly S
-  orderly = record {
-    tops = λ a b f ta tb. one_top S.cpus a b f (agree.once f) ta tb (one_or_two a b);
-    running = λ cpu f at. off_by_top S.cpus cpu f at (agree.once f);
-    numbered = λ cpu f at. agree.numbered f (top_on S.cpus cpu f at);
-    parked = λ f is. agree.numbered f (parked_on S.cpus f is);
-    ranked = ranked_by;
-  }
-
 module _ {A : Type 0} (plan : Plan) (m : Meaning A) (run : List Event) (is_run : IsRunOf plan m run) where
-  pub orderly_at : (n : ℕ) → Orderly (state_after plan m (take n run))
-  orderly_at n = orderly plan (state_after plan m (take n run)) (frames_agree_at_each plan m run is_run n) (steps_owned_at_each plan m run is_run n)
+  agree : FramesAgree (state_after plan m run)
+  agree = subst (λ es. FramesAgree (state_after plan m es)) (take-length run) (frames_agree_at_each plan m run is_run (length run))
 
-  orderly_now : Orderly (state_after plan m run)
-  orderly_now = subst (λ es. Orderly (state_after plan m es)) (take-length run) (orderly_at (length run))
+  owned : StepsOwned plan (state_after plan m run)
+  owned = subst (λ es. StepsOwned plan (state_after plan m es)) (take-length run) (steps_owned_at_each plan m run is_run (length run))
 
   module _ (k : ℕ) (e : Event) (g : Group) (off : touches plan (state_after plan m run) e g ≡ false) where
     by_following : (may plan m (state_after plan m run) e ≡ true) ⊎ IsTick m (state_after plan m run) (ready plan m run) e → offers plan m (state_after plan m run) g ≡ offers plan m (after plan m (state_after plan m run) e) g
-    by_following (inl comes) = untouched plan m (state_after plan m run) orderly_now e comes g off
-    by_following (inr tick) = untouched_by_tick plan m (state_after plan m run) orderly_now e _ tick.tick g off
+    by_following (inl comes) = untouched plan m (state_after plan m run) agree owned e comes g off
+    by_following (inr tick) = untouched_by_tick plan m (state_after plan m run) agree owned e _ tick.tick g off
 
     pub untouched_in_run : slice_get (ready plan m run) k ≡ Some e → offers plan m (state_after plan m run) g ≡ offers plan m (state_after plan m (run ++ e ∷ [])) g
     untouched_in_run at = by_following (follows plan m run k e at) ∙ ap (λ (T : State A). offers plan m T g) (sym (state_goes_on plan m run e))

@@ -1,15 +1,11 @@
 -- What an event touches: the groups whose events may differ before and after it. A group that it doesn't touch offers the
 -- same events in the state before and in the state after. (own)
-use Rattle.std.specs.Prelude.{◌≡◌, ◌≤◌, ℕ, Bool, true, false, ◌==◌, List, [], ◌∷◌, ◌++◌, filter, Option, Some}
+use Rattle.std.specs.Prelude.{ℕ, Bool, true, false, ◌==◌, List, [], ◌∷◌, ◌++◌, filter}
 use Rattle.std.specs.List.{flat_map, list_any}
 use Rattle.wdf_base.specs.Meaning.{Meaning}
 use Rattle.wdf_base.specs.declared.plan.Plan.{Plan}
 use Rattle.wdf_base.specs.declared.event.Event.{Event}
 use Rattle.wdf_base.specs.declared.event.Event.TheVariants as event
-use Rattle.wdf_base.specs.Callbacks.{row_of}
-use Rattle.wdf_base.specs.declared.call.Callback.{Callback}
-use Rattle.wdf_base.specs.declared.event.Step.TheVariants as step
-use Rattle.wdf_base.specs.declared.ids.Handle.{Handle}
 use Rattle.wdf_base.specs.declared.rank.Rank.{Rank}
 use Rattle.wdf_base.specs.declared.rank.Rank.TheVariants as rank
 use Rattle.wdf_model.specs.declared.deed.Deed.{Deed}
@@ -17,9 +13,6 @@ use Rattle.wdf_model.specs.declared.deed.Deed.TheVariants as deed
 use Rattle.wdf_model.specs.declared.enums.Group.{Group}
 use Rattle.wdf_model.specs.declared.enums.Group.TheVariants as group
 use Rattle.wdf_model.specs.State.{State}
-use Rattle.wdf_model.specs.Tables.{contains}
-use Rattle.wdf_model.specs.parts.Cpus.{top}
-use Rattle.wdf_model.specs.parts.Pnp.{next_step}
 use Rattle.wdf_model.specs.rules.Groups.{candidates_in}
 use Rattle.wdf_model.specs.rules.Steps.{deeds, may}
 
@@ -184,10 +177,9 @@ changed_by cpu (deed.GoOn f frame) = TopFrame cpu ∷ []
 changed_by cpu (deed.Raise f level) = Processor cpu ∷ []
 changed_by cpu (deed.Lower f level) = Processor cpu ∷ []
 changed_by cpu (deed.PopFrame on) = Processor cpu ∷ TopFrame cpu ∷ TopWait cpu ∷ RunningObjects ∷ WaitedObjects ∷ []
--- wide: on which objects frames run stays
-changed_by cpu (deed.ParkFrame on) = Processor cpu ∷ TopFrame cpu ∷ TopWait cpu ∷ RunningObjects ∷ WaitedObjects ∷ ParkedFrames ∷ []
--- wide, as above
-changed_by cpu (deed.UnparkFrame on f) = Processor cpu ∷ TopFrame cpu ∷ TopWait cpu ∷ RunningObjects ∷ WaitedObjects ∷ ParkedFrames ∷ []
+-- a parked frame still runs on its object, and waits
+changed_by cpu (deed.ParkFrame on) = Processor cpu ∷ TopFrame cpu ∷ TopWait cpu ∷ ParkedFrames ∷ []
+changed_by cpu (deed.UnparkFrame on f) = Processor cpu ∷ TopFrame cpu ∷ TopWait cpu ∷ ParkedFrames ∷ []
 changed_by cpu (deed.TakeLock l f by_call) = HeldLocks ∷ []
 changed_by cpu (deed.ReleaseLock l) = HeldLocks ∷ []
 changed_by cpu (deed.Present q r) = QueueLines ∷ RequestTable ∷ DevicePower ∷ []
@@ -263,10 +255,10 @@ changed plan S (event.Woke cpu c v) = TopFrame cpu.0 ∷ TopWait cpu.0 ∷ Waite
 changed plan S (event.Start cpu c o r) = changed_on cpu.0 ++ changed_by_deeds plan S cpu.0 (event.Start cpu c o r)
 -- the processor, the lock, and the steps of a device whose step ends
 changed plan S (event.End cpu c o v) = changed_on cpu.0 ++ changed_by_deeds plan S cpu.0 (event.End cpu c o v)
--- the processor and the parked frames; wide in that frames run on the same objects as before, and wait for the same
-changed plan S (event.Park cpu f) = changed_on cpu.0 ++ ParkedFrames ∷ AgentStates ∷ []
+-- the processor and the parked frames; each frame still runs on its object, and waits
+changed plan S (event.Park cpu f) = changed_by_deeds plan S cpu.0 (event.Park cpu f)
 -- the same
-changed plan S (event.Unpark cpu f) = changed_on cpu.0 ++ ParkedFrames ∷ AgentStates ∷ []
+changed plan S (event.Unpark cpu f) = changed_by_deeds plan S cpu.0 (event.Unpark cpu f)
 -- the agents alone, and nothing may follow
 changed plan S (event.Fault cpu x line) = AgentStates ∷ []
 -- what the stage does
@@ -291,15 +283,6 @@ touches plan S e g = list_any (λ p. has_piece p (read_by g)) (changed plan S e)
 -- the events of group g that may come in state S, by rising place
 abbrev pub offers : {A : Type 0} → Plan → Meaning A → State A → Group → List Event
 offers plan m S g = filter (may plan m S) (candidates_in plan m S g)
-
--- What is so in each state of a run, and the law needs: a frame is on top of one processor, and not parked; its number is
--- that of an event; and the callback of a device's next step has the rank of steps.
-pub record Orderly {A : Type 0} (S : State A) : Type 0 where
-  pub tops : (a b f : ℕ) → top S.cpus a ≡ Some f → top S.cpus b ≡ Some f → a ≡ b
-  pub running : (cpu f : ℕ) → top S.cpus cpu ≡ Some f → contains f S.cpus.parked ≡ false
-  pub numbered : (cpu f : ℕ) → top S.cpus cpu ≡ Some f → f ≤ S.number
-  pub parked : (f : ℕ) → contains f S.cpus.parked ≡ true → f ≤ S.number
-  pub ranked : (d : ℕ) (c : Callback) (i : Option Handle) → next_step S.pnp d ≡ Some (step.Run c i) → (row_of c).rank ≡ rank.Sequence
 
 -- group g is the own event of this processor
 abbrev pub is_own_of : ℕ → Group → Bool

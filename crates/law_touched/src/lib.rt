@@ -3,7 +3,7 @@
 //! each event changes. A Local or a Log touches the own event of its processor alone.
 #![tactic(auto)]
 
-ghost use Rattle.std.specs.Prelude.{◌≡◌, ◌+◌, ◌<◌, ℕ, true, false, List, [], ◌∷◌, ◌++◌, Some, length, slice_get, take};
+ghost use Rattle.std.specs.Prelude.{◌≡◌, ℕ, true, false, List, [], ◌∷◌, ◌++◌, Some, length, slice_get};
 ghost use Rattle.std.specs.List.{flat_map, sum_by};
 ghost use Rattle.wdf_base.specs.Meaning.{Meaning};
 ghost use Rattle.wdf_base.specs.declared.plan.Plan.{Plan};
@@ -13,11 +13,12 @@ ghost use Rattle.wdf_base.specs.declared.event.Event.TheVariants as event;
 ghost use Rattle.wdf_base.specs.declared.value.Value.{Value};
 ghost use Rattle.wdf_model.specs.State.{State};
 ghost use Rattle.wdf_model.specs.declared.enums.Group.{Group};
-ghost use Rattle.wdf_model.specs.declared.enums.Group.TheVariants as group;
 ghost use Rattle.wdf_model.specs.rules.Groups.{groups};
 ghost use Rattle.wdf_model.specs.rules.Ready.{IsRunOf, allowed, ready, state_after};
 ghost use Rattle.wdf_model.specs.rules.Steps.{after, may};
-ghost use Rattle.law_touched.specs.Touched.{Orderly, is_own_of, offers, touches};
+ghost use Rattle.law_machine_base.specs.OverRuns.{FramesAgree};
+ghost use Rattle.law_machine_once.specs.Owned.{StepsOwned};
+ghost use Rattle.law_touched.specs.Touched.{is_own_of, offers, touches};
 
 /// In every run, a group that an event doesn't touch offers the same events before and after it, whatever event may
 /// follow.
@@ -28,24 +29,19 @@ pub fn untouched_groups_stay<A>()
         → offers plan m (state_after plan m run) g ≡ offers plan m (state_after plan m (run ++ e ∷ [])) g }
 {}
 
-/// The same of one orderly state, and an event that may come there.
+/// The same of one state, and an event that may come there. In the state frames are there once and steps are their devices'
+/// own, as in each state of a run.
 #[tactic(auto, using(crate::proofs::Law::untouched))]
 pub fn untouched_groups_stay_in_a_state<A>()
-    ensures { (plan : Plan) (m : Meaning A) (S : State A) (e : Event) (g : Group) → Orderly S → may plan m S e ≡ true
+    ensures { (plan : Plan) (m : Meaning A) (S : State A) (e : Event) (g : Group) → FramesAgree S → StepsOwned plan S → may plan m S e ≡ true
         → touches plan S e g ≡ false → offers plan m S g ≡ offers plan m (after plan m S e) g }
 {}
 
 /// And of a tick, which is no candidate.
-#[tactic(auto, using(crate::proofs::Law::untouched_by_tick))]
+#[tactic(auto, using(crate::proofs::Law::untouched_by_the_tick))]
 pub fn groups_stay_that_no_tick_touches<A>()
-    ensures { (plan : Plan) (m : Meaning A) (S : State A) (time : ℕ) (g : Group) → Orderly S
+    ensures { (plan : Plan) (m : Meaning A) (S : State A) (time : ℕ) (g : Group) → FramesAgree S → StepsOwned plan S
         → touches plan S (event.Tick time) g ≡ false → offers plan m S g ≡ offers plan m (after plan m S (event.Tick time)) g }
-{}
-
-/// At each place of every run the state is orderly.
-#[tactic(auto, using(crate::proofs::Runs::orderly_at))]
-pub fn runs_are_orderly<A>()
-    ensures { (plan : Plan) (m : Meaning A) (run : List Event) → IsRunOf plan m run → (n : ℕ) → Orderly (state_after plan m (take n run)) }
 {}
 
 /// A `let`, an `if` or a `repeat` touches the own event of its processor and no other group.
