@@ -1,5 +1,5 @@
 -- What is so of the deeds of each kind of event.
-use Rattle.std.proofs.Common.{if◌then◌else◌, ◌≡◌, ℕ, Bool, true, false, ◌==◌, ◌&&◌, ◌||◌, List, [], ◌∷◌, ◌++◌, Option, Some, None, refl}
+use Rattle.std.proofs.Common.{if◌then◌else◌, ◌≡◌, ℕ, Bool, true, false, ◌||◌, List, [], ◌∷◌, ◌++◌, Option, Some, None, refl}
 use Rattle.std.specs.List.{flat_map, list_all}
 use Rattle.wdf_base.specs.declared.plan.Plan.{Plan}
 use Rattle.wdf_base.specs.declared.ids.Handle.{Handle}
@@ -8,7 +8,6 @@ use Rattle.wdf_base.specs.declared.call.Call.{Call}
 use Rattle.wdf_base.specs.declared.call.Callback.{Callback}
 use Rattle.wdf_base.specs.declared.call.CallKind.{CallKind}
 use Rattle.wdf_base.specs.declared.call.CallKind.TheVariants as call
-use Rattle.wdf_base.specs.declared.event.Event.{Event}
 use Rattle.wdf_base.specs.declared.event.Post.{Post}
 use Rattle.wdf_base.specs.declared.event.Post.TheVariants as post
 use Rattle.wdf_base.specs.declared.event.Stage.{Stage}
@@ -33,8 +32,7 @@ use Rattle.wdf_model.specs.rules.Calls.{outcome, second_deeds}
 use Rattle.wdf_model.specs.rules.Faults.{is_acquire, is_release}
 use Rattle.wdf_model.specs.rules.Posts.{arrival_deeds, arrival_info, arrival_place, cancel_at, cancel_deeds, cancel_reaches, post_deeds}
 use Rattle.wdf_model.specs.rules.Starts.{effect, effect_for, end_of_step, release_if_any, stage_deeds, stage_effect, start_effect, take_if_any}
-use Rattle.wdf_model.proofs.Tests.{both, both_left, both_right, itself}
-use Rattle.law_machine_deeds.specs.MayDo.{first_part, is_end}
+use Rattle.wdf_model.proofs.Tests.{both_left, both_right, itself}
 use Rattle.law_machine_deeds.proofs.Passing.{PassesBeside, first_of, outcome_passes}
 use Rattle.law_machine_deeds.proofs.Walk.{all_after, plain_frame}
 use Rattle.law_machine_counts.proofs.StillDeeds.{all_still, is_still_deed, none_behind, outcome_none, second_none}

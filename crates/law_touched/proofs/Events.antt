@@ -1,5 +1,5 @@
 -- What an event leaves as it was: each piece of the state that isn't in its row.
-use Rattle.std.proofs.Common.{if◌then◌else◌, ◌≡◌, ℕ, ◌+◌, Bool, true, false, ◌==◌, ◌&&◌, ◌||◌, List, [], ◌∷◌, ◌++◌, Option, Some, None, refl, ap, sym, subst, ◌∙◌}
+use Rattle.std.proofs.Common.{◌≡◌, ℕ, ◌+◌, Bool, true, false, ◌==◌, ◌&&◌, ◌||◌, List, [], ◌∷◌, ◌++◌, Option, Some, None, refl, ap, sym, subst}
 use Rattle.std.specs.List.{flat_map, list_all}
 use Rattle.wdf_base.specs.Meaning.{Meaning}
 use Rattle.wdf_base.specs.Callbacks.{row_of}
@@ -31,10 +31,9 @@ use Rattle.wdf_model.specs.parts.Cpus.{Cpus, frame_of, irql, is_empty_cpu, top}
 use Rattle.wdf_model.specs.parts.Locks.{lock_of_callback}
 use Rattle.wdf_model.specs.rules.Calls.{outcome, second_deeds}
 use Rattle.wdf_model.specs.rules.Deeds.{counted, do_deeds, told}
-use Rattle.wdf_model.specs.rules.Posts.{post_deeds}
 use Rattle.wdf_model.specs.rules.Script.{intent_of, statement_at}
-use Rattle.wdf_model.specs.rules.Starts.{end_of_step, new_frame, next_number, release_if_any, stage_deeds, start_effect, take_if_any}
-use Rattle.wdf_model.specs.rules.Steps.{after, answered, at_next, by_top, changed as frame_changed, deeds, did_deeds, event_of_top, goes_on, is_cpu, is_own_event, may, may_park, may_unpark, own_event, spending, stepped, wait_is_over, waiting, waiting_deeds, waits_on, woke_deeds}
+use Rattle.wdf_model.specs.rules.Starts.{end_of_step, new_frame, next_number, release_if_any, start_effect, take_if_any}
+use Rattle.wdf_model.specs.rules.Steps.{after, answered, at_next, by_top, changed as frame_changed, deeds, did_deeds, event_of_top, goes_on, is_cpu, is_own_event, may, may_park, may_unpark, spending, stepped, wait_is_over, waiting, waiting_deeds, waits_on, woke_deeds}
 use Rattle.wdf_model.specs.Tables.{contains, same_id}
 use Rattle.wdf_model.proofs.FrameCounts.{parked_once, parks, unparks}
 use Rattle.wdf_model.proofs.Tests.{both_left, both_right, either_false}

@@ -1,5 +1,5 @@
 -- What a deed leaves alone: each part of the state that isn't in its row.
-use Rattle.std.proofs.Common.{if◌then◌else◌, ◌≡◌, ◌≢◌, ℕ, Bool, true, false, ◌==◌, ◌&&◌, ◌||◌, List, [], ◌∷◌, ◌++◌, filter, map, fold, refl, ap, sym, ◌∙◌}
+use Rattle.std.proofs.Common.{if◌then◌else◌, ◌≡◌, ◌≢◌, ℕ, Bool, true, false, ◌==◌, ◌&&◌, ◌||◌, List, [], ◌∷◌, filter, map, fold, refl, ap, sym, ◌∙◌}
 use Rattle.std.proofs.lemmas.Bool.{eqb-true}
 use Rattle.std.specs.List.{flat_map, list_all}
 use Rattle.wdf_base.specs.Lives.{is_live}
@@ -26,8 +26,8 @@ use Rattle.wdf_model.specs.parts.Tree.{Tree, life_of, subtree}
 use Rattle.wdf_model.specs.parts.Deferred.Dpcs.{Dpcs}
 use Rattle.wdf_model.specs.parts.Deferred.Timers.{Timers}
 use Rattle.wdf_model.specs.parts.Deferred.WorkItems.{WorkItems}
-use Rattle.wdf_model.specs.rules.Deeds.{arrive_at, ask_object, ask_objects, close_queue, close_returning, do_deed, do_deeds, give_up, give_up_if, withdraw}
-use Rattle.law_touched.specs.Touched.{Piece, ObjectTree, Processor, TopFrame, ParkedFrames, HeldLocks, RequestTable, QueueLines, QueueControl, DevicePower, DeviceSteps, EnabledInterrupts, DpcLists, WorkQueue, TimerQueue, TargetTable, ClockTick, changed_by, has_piece}
+use Rattle.wdf_model.specs.rules.Deeds.{arrive_at, ask_object, close_queue, close_returning, do_deed, do_deeds, give_up, give_up_if, withdraw}
+use Rattle.law_touched.specs.Touched.{Piece, ObjectTree, Processor, TopFrame, HeldLocks, RequestTable, QueueLines, QueueControl, DevicePower, DeviceSteps, EnabledInterrupts, DpcLists, WorkQueue, TimerQueue, TargetTable, ClockTick, changed_by, has_piece}
 use Rattle.law_touched.proofs.Same.{none_before}
 
 -- what a part is, read off a state

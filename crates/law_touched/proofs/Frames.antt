@@ -1,8 +1,7 @@
 -- The pieces of the processors that stay where only one frame, and only one processor, changes.
-use Rattle.std.proofs.Common.{if◌then◌else◌, ◌≡◌, ◌≢◌, ℕ, zero, suc, max, Bool, true, false, not, ◌==◌, ◌&&◌, ◌||◌, count_by, List, [], ◌∷◌, ◌++◌, length, map, filter, fold, ◌⊎◌, inl, inr, Option, Some, None, refl, ap, sym, ◌∙◌}
+use Rattle.std.proofs.Common.{if◌then◌else◌, ◌≡◌, ◌≢◌, ℕ, zero, suc, max, Bool, true, false, ◌==◌, ◌&&◌, ◌||◌, count_by, List, [], ◌∷◌, ◌++◌, length, map, filter, fold, ◌⊎◌, inl, inr, Option, Some, None, refl, ap, sym, ◌∙◌}
 use Rattle.std.specs.List.{flat_map, list_any}
 use Rattle.wdf_base.specs.Same.{same_callback}
-use Rattle.wdf_base.specs.declared.call.Callback.{Callback}
 use Rattle.wdf_base.specs.declared.frame.Frame.{Frame}
 use Rattle.wdf_model.specs.declared.entries.HeldLevel.{HeldLevel}
 use Rattle.wdf_model.specs.declared.entries.Running.{Running}

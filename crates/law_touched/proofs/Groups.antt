@@ -1,5 +1,5 @@
 -- What each group offers is the same in two states that are the same in what it reads.
-use Rattle.std.proofs.Common.{if◌then◌else◌, ◌≡◌, ℕ, Bool, true, false, not, ◌&&◌, ◌||◌, ◌==◌, [], ◌∷◌, length, filter, Option, Some, None, option_map, slice_get, refl, ap, sym, ◌∙◌}
+use Rattle.std.proofs.Common.{◌≡◌, ℕ, Bool, true, false, not, ◌&&◌, ◌||◌, ◌==◌, [], ◌∷◌, length, Option, Some, option_map, slice_get, refl, ap, sym, ◌∙◌}
 use Rattle.std.specs.Option.{option_and_then}
 use Rattle.std.specs.List.{filter_map, list_all, range_with_len}
 use Rattle.wdf_base.specs.Meaning.{Meaning}
@@ -23,7 +23,7 @@ use Rattle.wdf_model.specs.State.{State, handle_in, is_locked, is_proper, nothin
 use Rattle.wdf_model.specs.Tables.{contains, first_of_list, same_id}
 use Rattle.wdf_model.specs.declared.enums.Group.{Group}
 use Rattle.wdf_model.specs.declared.enums.Group.TheVariants as group
-use Rattle.wdf_model.specs.parts.Cpus.{frame_of, irql, is_empty_cpu, nobody_on, top}
+use Rattle.wdf_model.specs.parts.Cpus.{frame_of, is_empty_cpu, top}
 use Rattle.wdf_model.specs.parts.Locks.{is_free_lock, object_lock}
 use Rattle.wdf_model.specs.parts.Pnp.{follows_queues_up, is_running_step, next_step}
 use Rattle.wdf_model.specs.parts.Power.{any_resume_due, unsettled}
@@ -36,12 +36,12 @@ use Rattle.wdf_model.specs.rules.Posts.{due_of, may_post, post_answer}
 use Rattle.wdf_model.specs.rules.Starts.{callback_over, handle_id, is_drained, is_finished, stage_ready, step_ready}
 use Rattle.wdf_model.specs.Ids.{cpu_of}
 use Rattle.wdf_model.specs.rules.Steps.{is_closing_with, is_cpu, may, may_park, may_unpark, wait_is_over, waits_on}
-use Rattle.law_touched.specs.Touched.{ObjectTree, Processor, TopFrame, TopWait, RunningObjects, WaitedObjects, ParkedFrames, HeldLocks, RequestTable, QueueLines, QueueControl, DevicePower, DeviceSteps, EnabledInterrupts, DpcLists, WorkQueue, TimerQueue, TargetTable, AgentStates, ClockTick, offers, read_by, read_by_rank, read_for_rank}
+use Rattle.law_touched.specs.Touched.{ObjectTree, Processor, TopWait, RunningObjects, WaitedObjects, ParkedFrames, HeldLocks, RequestTable, QueueLines, QueueControl, DevicePower, DeviceSteps, EnabledInterrupts, DpcLists, WorkQueue, TimerQueue, TargetTable, AgentStates, ClockTick, offers, read_by, read_by_rank, read_for_rank}
 use Rattle.law_touched.proofs.Lists.{chosen_alike, filter_chosen}
 use Rattle.law_touched.proofs.Own.{own_offered_alike}
 use Rattle.law_touched.proofs.Ranks.{StepsRanked, cancel, canceled, cleanup, completed, completion, deferred, destroy, handler, isr, queue_state, resume, sequence, stop, timed, work}
 use Rattle.law_touched.proofs.Same.{Agree, Same, on_it, wait_of_it}
-use Rattle.law_touched.proofs.Starts.{SameOn, chained_alike, if_may, mapped_alike, one_alike}
+use Rattle.law_touched.proofs.Starts.{chained_alike, if_may, mapped_alike, one_alike}
 use Rattle.law_touched.proofs.Waits.{over_alike, waits_alike}
 
 neither : (a b c d e f : Bool) → a ≡ false → d ≡ false → (a && b && c) ≡ (d && e && f)

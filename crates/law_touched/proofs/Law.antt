@@ -1,8 +1,8 @@
 -- A group that an event doesn't touch offers the same events before and after it.
-use Rattle.std.proofs.Common.{◌≡◌, ℕ, Bool, true, false, ◌==◌, ◌||◌, List, [], ◌∷◌, ◌++◌, ◌+◌, filter, length, length-append, Option, Some, None, refl, ap, sym, subst, ◌∙◌}
+use Rattle.std.proofs.Common.{◌≡◌, ℕ, Bool, true, false, ◌==◌, ◌||◌, List, [], ◌∷◌, ◌++◌, ◌+◌, filter, length, length-append, Some, None, refl, ap, sym, subst, ◌∙◌}
 use Rattle.std.proofs.lemmas.List.Elements.{filter-append}
 use Rattle.std.proofs.lemmas.List.Sums.{sum_by-cons}
-use Rattle.std.specs.List.{flat_map, list_any, sum_by}
+use Rattle.std.specs.List.{flat_map, sum_by}
 use Rattle.wdf_base.specs.Meaning.{Meaning}
 use Rattle.wdf_base.specs.declared.plan.Plan.{Plan}
 use Rattle.wdf_base.specs.declared.ids.Cpu.{Cpu}
@@ -21,7 +21,7 @@ use Rattle.wdf_base.specs.declared.event.Step.TheVariants as step
 use Rattle.law_machine_base.specs.OverRuns.{FramesAgree}
 use Rattle.law_machine_once.specs.Owned.{StepsOwned}
 use Rattle.law_touched.proofs.Ranks.{StepsRanked}
-use Rattle.law_touched.specs.Touched.{Piece, TopFrame, changed, has_piece, is_own_of, offers, read_by, read_by_rank, read_for_rank, touches}
+use Rattle.law_touched.specs.Touched.{TopFrame, changed, has_piece, is_own_of, offers, read_by, read_by_rank, read_for_rank, touches}
 use Rattle.law_touched.proofs.Events.{stays, tick_stays}
 use Rattle.law_touched.proofs.Groups.{offers_alike}
 use Rattle.law_touched.proofs.Same.{apart}

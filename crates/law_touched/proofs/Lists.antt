@@ -1,6 +1,6 @@
 -- What a group offers, place by place.
-use Rattle.std.proofs.Common.{if◌then◌else◌, ◌≡◌, ℕ, Bool, true, false, List, [], ◌∷◌, filter, Option, Some, None, refl, ap, ◌∙◌}
-use Rattle.std.specs.List.{cons_option, filter_map, range_with_len}
+use Rattle.std.proofs.Common.{if◌then◌else◌, ◌≡◌, Bool, true, false, List, [], ◌∷◌, filter, Option, Some, None, refl, ap}
+use Rattle.std.specs.List.{cons_option, filter_map}
 use Rattle.std.specs.Option.{option_and_then}
 
 -- an item, if it passes

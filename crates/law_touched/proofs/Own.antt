@@ -1,5 +1,5 @@
 -- The own event of a processor is the same in two states that are the same in what it reads.
-use Rattle.std.proofs.Common.{if◌then◌else◌, ◌≡◌, ℕ, Bool, true, false, List, [], ◌∷◌, Option, Some, None, refl, ap, sym, ◌∙◌}
+use Rattle.std.proofs.Common.{if◌then◌else◌, ◌≡◌, ℕ, [], ◌∷◌, Option, Some, None, refl, ap, sym, ◌∙◌}
 use Rattle.wdf_base.specs.Meaning.{Meaning}
 use Rattle.wdf_base.specs.declared.plan.Plan.{Plan}
 use Rattle.wdf_base.specs.declared.event.Access.TheVariants as access
@@ -15,12 +15,12 @@ use Rattle.wdf_model.specs.Plans.{device_of_register}
 use Rattle.wdf_model.specs.State.{State}
 use Rattle.wdf_model.specs.Tables.{first_of_list}
 use Rattle.wdf_model.specs.declared.enums.Group.TheVariants as group
-use Rattle.wdf_model.specs.parts.Cpus.{frame_of, irql, nobody_on, stack_of, top}
-use Rattle.wdf_model.specs.rules.Calls.{is_met, outcome}
+use Rattle.wdf_model.specs.parts.Cpus.{frame_of, top}
+use Rattle.wdf_model.specs.rules.Calls.{outcome}
 use Rattle.wdf_model.specs.rules.Faults.{View, fault_of}
 use Rattle.wdf_model.specs.rules.Script.{intent_of}
 use Rattle.wdf_model.specs.rules.Starts.{shown}
-use Rattle.wdf_model.specs.rules.Steps.{event_of_frame, event_of_top, fault_event, intent_event, may, own_event, spends, view_of, woken_event}
+use Rattle.wdf_model.specs.rules.Steps.{event_of_frame, event_of_top, fault_event, intent_event, own_event, spends, view_of}
 use Rattle.law_touched.specs.Touched.{Processor, TopFrame, ObjectTree, RunningObjects, HeldLocks, RequestTable, QueueLines, QueueControl, DevicePower, EnabledInterrupts, DpcLists, WorkQueue, TimerQueue, TargetTable, AgentStates, ClockTick, read_by}
 use Rattle.law_machine_own.proofs.MayCome.{own_may}
 use Rattle.law_touched.proofs.Same.{Agree, Same, on_it, top_of_it}

@@ -35,7 +35,7 @@ use Rattle.wdf_model.specs.parts.Targets.{routine_due, the_target}
 use Rattle.wdf_model.specs.parts.Deferred.Dpcs.{dpc_head}
 use Rattle.wdf_model.specs.parts.Deferred.Timers.{timer_due}
 use Rattle.wdf_model.specs.parts.Deferred.WorkItems.{is_work_queued}
-use Rattle.wdf_model.specs.rules.Groups.{handler_start, if_there, start_at, start_for, start_of_step, starts, starts_for}
+use Rattle.wdf_model.specs.rules.Groups.{handler_start, start_at, start_for, start_of_step, starts, starts_for}
 use Rattle.wdf_model.specs.rules.Starts.{is_finished, line_is_up, presents, rank_ready, rank_ready_for, step_of, stop_is_due}
 use Rattle.law_touched.proofs.Starts.{SameOn, alone, chained_alike, for_request, if_may, mapped_alike, there_alike}
 

@@ -1,36 +1,20 @@
 -- What an event of a run doesn't touch stays.
-use Rattle.std.proofs.Common.{◌≡◌, ◌≢◌, ◌≤◌, ℕ, ◌==◌, ◌+◌, Bool, true, false, List, [], ◌∷◌, ◌++◌, drop, length, take, count_by, slice_get, ◌⊎◌, inl, inr, Option, Some, None, refl, ap, sym, subst, ◌∙◌, arith}
+use Rattle.std.proofs.Common.{◌≡◌, ℕ, true, false, List, [], ◌∷◌, ◌++◌, length, slice_get, ◌⊎◌, inl, inr, Some, ap, sym, subst, ◌∙◌}
 use Rattle.std.proofs.Math.Seq.{take-length}
 use Rattle.wdf_base.specs.Meaning.{Meaning}
-use Rattle.wdf_base.specs.Callbacks.{row_of}
 use Rattle.wdf_base.specs.declared.plan.Plan.{Plan}
-use Rattle.wdf_base.specs.declared.ids.Handle.{Handle}
-use Rattle.wdf_base.specs.declared.call.Callback.{Callback}
 use Rattle.wdf_base.specs.declared.event.Event.{Event}
 use Rattle.wdf_base.specs.declared.event.Event.TheVariants as event
-use Rattle.wdf_base.specs.declared.event.Step.TheVariants as step
-use Rattle.wdf_base.specs.declared.rank.Rank.TheVariants as rank
 use Rattle.wdf_model.specs.State.{State}
-use Rattle.wdf_model.specs.Tables.{contains, first_of_list, flag}
-use Rattle.wdf_model.specs.parts.Cpus as cpus
-use Rattle.wdf_model.specs.parts.Cpus.{Cpus, all_frames, stack_of, top}
-use Rattle.wdf_model.specs.parts.Pnp.{next_step}
 use Rattle.wdf_model.specs.rules.Ready.{IsRunOf, ready, state_after}
 use Rattle.wdf_model.specs.rules.Steps.{after, may}
-use Rattle.wdf_model.proofs.Counts.{equal, one_or_two}
-use Rattle.wdf_model.proofs.FrameCounts.{contained, on}
-use Rattle.wdf_model.proofs.Counts.{count_behind}
-use Rattle.wdf_model.proofs.Maps.{entry_put_other}
 use Rattle.law_machine_base.specs.FactsOfEvents.{IsTick}
 use Rattle.law_machine_base.specs.OverRuns.{FramesAgree}
 use Rattle.law_machine_base.proofs.Follows.{follows, state_goes_on}
-use Rattle.law_machine_counts.proofs.FrameMoves.{pop_on}
 use Rattle.law_machine_counts.proofs.StepsOverRuns.{frames_agree_at_each}
-use Rattle.law_machine_lives.proofs.ReasonsOfEvents.{off_by_top, top_on}
 use Rattle.law_machine_once.specs.Owned.{StepsOwned}
 use Rattle.law_machine_once.proofs.Steps.{steps_owned_at_each}
 use Rattle.wdf_model.specs.declared.enums.Group.{Group}
-use Rattle.std.specs.List.{flat_map}
 use Rattle.wdf_base.specs.declared.ids.Cpu.{Cpu}
 use Rattle.wdf_base.specs.declared.value.Value.{Value}
 use Rattle.law_touched.specs.Touched.{is_own_of, offers, touches}

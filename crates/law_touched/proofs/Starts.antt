@@ -1,37 +1,20 @@
 -- The starts of callbacks that two states offer alike.
-use Rattle.std.proofs.Common.{if◌then◌else◌, ◌≡◌, ℕ, Bool, true, false, not, ◌==◌, ◌&&◌, nat_lt, length, Option, Some, None, option_map, slice_get, is_some, refl, ap, ◌∙◌}
+use Rattle.std.proofs.Common.{if◌then◌else◌, ◌≡◌, ℕ, Bool, true, false, ◌==◌, ◌&&◌, nat_lt, length, Option, Some, None, option_map, refl}
 use Rattle.std.specs.Option.{option_and_then}
 use Rattle.wdf_base.specs.Meaning.{Meaning}
 use Rattle.wdf_base.specs.declared.plan.Plan.{Plan}
 use Rattle.wdf_base.specs.declared.ids.Handle.{Handle}
-use Rattle.wdf_base.specs.declared.object.Kind.{Kind}
-use Rattle.wdf_base.specs.declared.object.Kind.TheVariants as kind
-use Rattle.wdf_base.specs.declared.object.RequestForm.{RequestForm}
 use Rattle.wdf_base.specs.declared.call.Callback.{Callback}
-use Rattle.wdf_base.specs.declared.call.Callback.TheVariants as callback
-use Rattle.wdf_base.specs.declared.rank.Rank.{Rank}
-use Rattle.wdf_base.specs.declared.rank.Rank.TheVariants as rank
 use Rattle.wdf_base.specs.declared.event.Event.{Event}
-use Rattle.wdf_base.specs.declared.event.Stage.TheVariants as stage
-use Rattle.wdf_base.specs.declared.event.Step.{Step}
-use Rattle.wdf_base.specs.declared.event.Step.TheVariants as step
-use Rattle.wdf_base.specs.Callbacks.{dpc_function, row_of}
-use Rattle.wdf_base.specs.Same.{same_option, same_step}
+use Rattle.wdf_base.specs.Callbacks.{row_of}
 use Rattle.wdf_model.specs.Ids.{cpu_of}
-use Rattle.wdf_model.specs.Plans.{callback_irql, handler_for, interrupt_of, is_managed, queue_of}
-use Rattle.wdf_model.specs.declared.entries.Sending.{Sending}
-use Rattle.wdf_model.specs.declared.entries.Timed.{Timed}
+use Rattle.wdf_model.specs.Plans.{callback_irql}
 use Rattle.wdf_model.specs.State.{State, declared_in, declares_in, handle_in, is_proper}
-use Rattle.wdf_model.specs.parts.Cpus.{frame_of, irql, is_running, nobody_on, stack_of, top}
+use Rattle.wdf_model.specs.parts.Cpus.{irql, stack_of}
 use Rattle.wdf_model.specs.parts.Locks.{is_free_if_any, lock_of_callback}
-use Rattle.wdf_model.specs.parts.Pnp.{next_step}
-use Rattle.wdf_model.specs.parts.Queues.{front}
-use Rattle.wdf_model.specs.parts.Requests.{info_of}
-use Rattle.wdf_model.specs.parts.Targets.{the_target}
-use Rattle.wdf_model.specs.parts.Deferred.Dpcs.{dpc_head}
-use Rattle.wdf_model.specs.rules.Groups.{handler_start, if_there, start_at, start_for, start_of_step, starts, starts_for}
+use Rattle.wdf_model.specs.rules.Groups.{if_there, starts, starts_for}
 use Rattle.wdf_model.specs.rules.Starts.{is_ready_for, level_fits, life_fits, may_start, rank_ready, rank_ready_for}
-use Rattle.wdf_model.specs.rules.Steps.{is_cpu, is_proper_if_any, may}
+use Rattle.wdf_model.specs.rules.Steps.{is_cpu, may}
 use Rattle.law_touched.proofs.Lists.{if_passes}
 
 -- ---- one event
