@@ -22,6 +22,7 @@ use Rattle.wdf_model.specs.parts.Power.{Power}
 use Rattle.wdf_model.specs.parts.Queues.{Queues, waiting_in}
 use Rattle.wdf_model.specs.parts.Requests as requests
 use Rattle.wdf_model.specs.parts.Requests.{Requests}
+use Rattle.wdf_model.specs.parts.Targets.{Targets}
 use Rattle.wdf_model.specs.parts.Tree.{Tree, life_of, subtree}
 use Rattle.wdf_model.specs.parts.Deferred.Dpcs.{Dpcs}
 use Rattle.wdf_model.specs.parts.Deferred.Timers.{Timers}
@@ -54,6 +55,63 @@ module _ {A X : Type 0} (F : State A → X) where
       → (S : State A) (device : ℕ) (info : RequestInfo) (p : Place) → F S ≡ F (arrive_at S device info p)
   arrives h k S device info (place.Queued q) = h S _ _ ∙ k _ _ _
   arrives h k S device info _ = h S _ _
+
+-- a deed that moves a request, or asks the deletion of objects: it may change several parts, or many objects
+abbrev pub is_compound : Deed → Bool
+is_compound (deed.Arrive device info p) = true
+is_compound (deed.AskDeletion o) = true
+is_compound (deed.Requeue r q) = true
+is_compound (deed.Forward r q) = true
+is_compound (deed.GiveBack r q) = true
+is_compound (deed.SendRequest r t forget) = true
+is_compound (deed.CompleteRequest r) = true
+is_compound (deed.PurgeQueue q) = true
+is_compound (deed.CloseReturning d) = true
+is_compound (deed.CloseDevice d) = true
+is_compound _ = false
+
+-- what none of these changes
+module _ {A X : Type 0} (plan : Plan) (F : State A → X)
+    (blind : (S : State A) (T : Tree) (D : Dpcs) (W : WorkItems) (M : Timers) (Q : Queues) (P : Power) (R : Requests) (K : Control) (N : Targets)
+    → F S ≡ F (record S { tree = T; dpcs = D; work_items = W; timers = M; queues = Q; power = P; requests = R; control = K; targets = N })) where
+  asked : (S : State A) (T : Tree) (D : Dpcs) (W : WorkItems) (M : Timers) → F S ≡ F (record S { tree = T; dpcs = D; work_items = W; timers = M })
+  asked S T D W M = blind S T D W M S.queues S.power S.requests S.control S.targets
+
+  given : (S : State A) (Q : Queues) (P : Power) → F S ≡ F (record S { queues = Q; power = P })
+  given S Q P = blind S S.tree S.dpcs S.work_items S.timers Q P S.requests S.control S.targets
+
+  placed : (S : State A) (R : Requests) → F S ≡ F (record S { requests = R })
+  placed S R = blind S S.tree S.dpcs S.work_items S.timers S.queues S.power R S.control S.targets
+
+  lined : (S : State A) (Q : Queues) (K : Control) → F S ≡ F (record S { queues = Q; control = K })
+  lined S Q K = blind S S.tree S.dpcs S.work_items S.timers Q S.power S.requests K S.targets
+
+  taken : (S : State A) (Q : Queues) (R : Requests) → F S ≡ F (record S { queues = Q; requests = R })
+  taken S Q R = blind S S.tree S.dpcs S.work_items S.timers Q S.power R S.control S.targets
+
+  pub compound_stays : (d : Deed) (S : State A) → is_compound d ≡ true → F S ≡ F (do_deed plan d S)
+  compound_stays (deed.Arrive device info p) S is = arrives F (λ U T R. blind U T U.dpcs U.work_items U.timers U.queues U.power R U.control U.targets) lined S device.0 info p
+  compound_stays (deed.AskDeletion o) S is = asks F asked (subtree S.tree o.0) S
+  compound_stays (deed.Requeue r q) S is = gives F given r.0 S ∙ placed (give_up S r.0) _ ∙ lined _ _ _
+  compound_stays (deed.Forward r q) S is = gives F given r.0 S ∙ placed (give_up S r.0) _ ∙ lined _ _ _
+  compound_stays (deed.GiveBack r q) S is = gives F given r.0 S ∙ placed (give_up S r.0) _
+  compound_stays (deed.SendRequest r t forget) S is =
+      gives_if F given forget r.0 S ∙ (let U = give_up_if forget S r.0 in blind U U.tree U.dpcs U.work_items U.timers U.queues U.power _ U.control _)
+  compound_stays (deed.CompleteRequest r) S is =
+      gives F given r.0 S ∙ placed (give_up S r.0) (requests.complete S.requests r.0) ∙ asks F asked (subtree (give_up S r.0).tree r.0) (record (give_up S r.0) { requests = requests.complete S.requests r.0 })
+  compound_stays (deed.PurgeQueue q) S is =
+      lined S S.queues (control.set_mode S.control q.0 mode.Purged) ∙ each F (withdraw plan q.0) (λ U r. taken U _ _) (waiting_in S.queues q.0) (record S { control = control.set_mode S.control q.0 mode.Purged })
+  compound_stays (deed.CloseReturning d) S is = each F close_returning (λ U q. placed U _) (managed_queues plan d.0) S
+  compound_stays (deed.CloseDevice d) S is = lined S S.queues (control.shut S.control d.0) ∙ each F close_queue (λ U q. taken U _ _) (queues_of plan d.0) (record S { control = control.shut S.control d.0 })
+  compound_stays _ S is = absurd (let z : ⊥ = cc in z)
+
+  stays_by : (d : Deed) (S : State A) (b : Bool) → is_compound d ≡ b → (is_compound d ≡ false → F S ≡ F (do_deed plan d S)) → F S ≡ F (do_deed plan d S)
+  stays_by d S true is plain = compound_stays d S is
+  stays_by d S false is plain = plain is
+
+  -- a part stays that these leave alone, where it stays by each other deed
+  pub stays : (d : Deed) (S : State A) → (is_compound d ≡ false → F S ≡ F (do_deed plan d S)) → F S ≡ F (do_deed plan d S)
+  stays d S plain = stays_by d S (is_compound d) refl plain
 
 -- a deed that does nothing to the processors
 abbrev pub is_quiet : Deed → Bool
@@ -94,307 +152,153 @@ it_is_there : (cpu : ℕ) → ((cpu == cpu) || false) ≡ false → ⊥
 it_is_there cpu h = let k : (cpu == cpu) ≡ true = itself cpu in let z : ⊥ = cc in z
 
 module _ {A : Type 0} (plan : Plan) (cpu : ℕ) where
+  -- ---- the parts that such deeds change
 
-  -- tree
   pub tree_by : (d : Deed) (S : State A) → has_piece ObjectTree (changed_by cpu d) ≡ false → S.tree ≡ (do_deed plan d S).tree
-  tree_by (deed.Create k class parent) S h = absurd (let z : ⊥ = cc in z)
-  tree_by (deed.MakeRequest class parent) S h = absurd (let z : ⊥ = cc in z)
-  tree_by (deed.Arrive device info p) S h = absurd (let z : ⊥ = cc in z)
-  tree_by (deed.AskDeletion o) S h = absurd (let z : ⊥ = cc in z)
-  tree_by (deed.Refer o) S h = absurd (let z : ⊥ = cc in z)
-  tree_by (deed.Unrefer o) S h = absurd (let z : ⊥ = cc in z)
-  tree_by (deed.WriteCell o k v) S h = absurd (let z : ⊥ = cc in z)
-  tree_by (deed.Note o c) S h = absurd (let z : ⊥ = cc in z)
-  tree_by (deed.CleanUp o) S h = absurd (let z : ⊥ = cc in z)
-  tree_by (deed.EndLife o) S h = absurd (let z : ⊥ = cc in z)
   tree_by (deed.Requeue r q) S h = gives (λ (S : State A). S.tree) (λ S Q P. refl) r.0 S
   tree_by (deed.Forward r q) S h = gives (λ (S : State A). S.tree) (λ S Q P. refl) r.0 S
   tree_by (deed.GiveBack r q) S h = gives (λ (S : State A). S.tree) (λ S Q P. refl) r.0 S
   tree_by (deed.SendRequest r t forget) S h = gives_if (λ (S : State A). S.tree) (λ S Q P. refl) forget r.0 S
-  tree_by (deed.CompleteRequest r) S h = absurd (let z : ⊥ = cc in z)
   tree_by (deed.PurgeQueue q) S h = each (λ (S : State A). S.tree) (withdraw plan q.0) (λ S r. refl) (waiting_in S.queues q.0) (record S { control = control.set_mode S.control q.0 mode.Purged })
   tree_by (deed.CloseReturning d) S h = each (λ (S : State A). S.tree) close_returning (λ S q. refl) (managed_queues plan d.0) S
   tree_by (deed.CloseDevice d) S h = each (λ (S : State A). S.tree) close_queue (λ S q. refl) (queues_of plan d.0) (record S { control = control.shut S.control d.0 })
-  tree_by _ S h = refl
+  tree_by _ S h = cc
 
-  -- locks
-  pub locks_by : (d : Deed) (S : State A) → has_piece HeldLocks (changed_by cpu d) ≡ false → S.locks ≡ (do_deed plan d S).locks
-  locks_by (deed.Arrive device info p) S h = arrives (λ (S : State A). S.locks) (λ S T R. refl) (λ S Q K. refl) S device.0 info p
-  locks_by (deed.AskDeletion o) S h = asks (λ (S : State A). S.locks) (λ S T D W M. refl) (subtree S.tree o.0) S
-  locks_by (deed.TakeLock l f by_call) S h = absurd (let z : ⊥ = cc in z)
-  locks_by (deed.ReleaseLock l) S h = absurd (let z : ⊥ = cc in z)
-  locks_by (deed.Requeue r q) S h = gives (λ (S : State A). S.locks) (λ S Q P. refl) r.0 S
-  locks_by (deed.Forward r q) S h = gives (λ (S : State A). S.locks) (λ S Q P. refl) r.0 S
-  locks_by (deed.GiveBack r q) S h = gives (λ (S : State A). S.locks) (λ S Q P. refl) r.0 S
-  locks_by (deed.SendRequest r t forget) S h = gives_if (λ (S : State A). S.locks) (λ S Q P. refl) forget r.0 S
-  locks_by (deed.CompleteRequest r) S h = gives (λ (S : State A). S.locks) (λ S Q P. refl) r.0 S ∙ asks (λ (S : State A). S.locks) (λ S T D W M. refl) (subtree (give_up S r.0).tree r.0) (record (give_up S r.0) { requests = requests.complete S.requests r.0 })
-  locks_by (deed.PurgeQueue q) S h = each (λ (S : State A). S.locks) (withdraw plan q.0) (λ S r. refl) (waiting_in S.queues q.0) (record S { control = control.set_mode S.control q.0 mode.Purged })
-  locks_by (deed.CloseReturning d) S h = each (λ (S : State A). S.locks) close_returning (λ S q. refl) (managed_queues plan d.0) S
-  locks_by (deed.CloseDevice d) S h = each (λ (S : State A). S.locks) close_queue (λ S q. refl) (queues_of plan d.0) (record S { control = control.shut S.control d.0 })
-  locks_by _ S h = refl
-
-  -- requests
   pub requests_by : (d : Deed) (S : State A) → has_piece RequestTable (changed_by cpu d) ≡ false → S.requests ≡ (do_deed plan d S).requests
-  requests_by (deed.MakeRequest class parent) S h = absurd (let z : ⊥ = cc in z)
-  requests_by (deed.Arrive device info p) S h = absurd (let z : ⊥ = cc in z)
   requests_by (deed.AskDeletion o) S h = asks (λ (S : State A). S.requests) (λ S T D W M. refl) (subtree S.tree o.0) S
-  requests_by (deed.EndLife o) S h = absurd (let z : ⊥ = cc in z)
-  requests_by (deed.Present q r) S h = absurd (let z : ⊥ = cc in z)
-  requests_by (deed.Receive q r) S h = absurd (let z : ⊥ = cc in z)
-  requests_by (deed.Requeue r q) S h = absurd (let z : ⊥ = cc in z)
-  requests_by (deed.Forward r q) S h = absurd (let z : ⊥ = cc in z)
-  requests_by (deed.GiveBack r q) S h = absurd (let z : ⊥ = cc in z)
-  requests_by (deed.Withdraw q r) S h = absurd (let z : ⊥ = cc in z)
-  requests_by (deed.MarkRequest r) S h = absurd (let z : ⊥ = cc in z)
-  requests_by (deed.UnmarkRequest r) S h = absurd (let z : ⊥ = cc in z)
-  requests_by (deed.CancelRequest r) S h = absurd (let z : ⊥ = cc in z)
-  requests_by (deed.TakeCancel r) S h = absurd (let z : ⊥ = cc in z)
-  requests_by (deed.SendRequest r t forget) S h = absurd (let z : ⊥ = cc in z)
-  requests_by (deed.FinishSending r s) S h = absurd (let z : ⊥ = cc in z)
-  requests_by (deed.ComeBack r) S h = absurd (let z : ⊥ = cc in z)
-  requests_by (deed.CompleteRequest r) S h = absurd (let z : ⊥ = cc in z)
-  requests_by (deed.PurgeQueue q) S h = absurd (let z : ⊥ = cc in z)
-  requests_by (deed.CloseReturning d) S h = absurd (let z : ⊥ = cc in z)
-  requests_by (deed.CloseDevice d) S h = absurd (let z : ⊥ = cc in z)
-  requests_by _ S h = refl
+  requests_by _ S h = cc
 
-  -- queues
   pub queues_by : (d : Deed) (S : State A) → has_piece QueueLines (changed_by cpu d) ≡ false → S.queues ≡ (do_deed plan d S).queues
-  queues_by (deed.Arrive device info p) S h = absurd (let z : ⊥ = cc in z)
   queues_by (deed.AskDeletion o) S h = asks (λ (S : State A). S.queues) (λ S T D W M. refl) (subtree S.tree o.0) S
-  queues_by (deed.Present q r) S h = absurd (let z : ⊥ = cc in z)
-  queues_by (deed.Receive q r) S h = absurd (let z : ⊥ = cc in z)
-  queues_by (deed.Requeue r q) S h = absurd (let z : ⊥ = cc in z)
-  queues_by (deed.Forward r q) S h = absurd (let z : ⊥ = cc in z)
-  queues_by (deed.GiveBack r q) S h = absurd (let z : ⊥ = cc in z)
-  queues_by (deed.Withdraw q r) S h = absurd (let z : ⊥ = cc in z)
-  queues_by (deed.SendRequest r t forget) S h = absurd (let z : ⊥ = cc in z)
-  queues_by (deed.CompleteRequest r) S h = absurd (let z : ⊥ = cc in z)
-  queues_by (deed.PurgeQueue q) S h = absurd (let z : ⊥ = cc in z)
   queues_by (deed.CloseReturning d) S h = each (λ (S : State A). S.queues) close_returning (λ S q. refl) (managed_queues plan d.0) S
-  queues_by (deed.CloseDevice d) S h = absurd (let z : ⊥ = cc in z)
-  queues_by _ S h = refl
+  queues_by _ S h = cc
 
-  -- control
   pub control_by : (d : Deed) (S : State A) → has_piece QueueControl (changed_by cpu d) ≡ false → S.control ≡ (do_deed plan d S).control
-  control_by (deed.Arrive device info p) S h = absurd (let z : ⊥ = cc in z)
   control_by (deed.AskDeletion o) S h = asks (λ (S : State A). S.control) (λ S T D W M. refl) (subtree S.tree o.0) S
-  control_by (deed.Requeue r q) S h = absurd (let z : ⊥ = cc in z)
-  control_by (deed.Forward r q) S h = absurd (let z : ⊥ = cc in z)
   control_by (deed.GiveBack r q) S h = gives (λ (S : State A). S.control) (λ S Q P. refl) r.0 S
   control_by (deed.SendRequest r t forget) S h = gives_if (λ (S : State A). S.control) (λ S Q P. refl) forget r.0 S
   control_by (deed.CompleteRequest r) S h = gives (λ (S : State A). S.control) (λ S Q P. refl) r.0 S ∙ asks (λ (S : State A). S.control) (λ S T D W M. refl) (subtree (give_up S r.0).tree r.0) (record (give_up S r.0) { requests = requests.complete S.requests r.0 })
-  control_by (deed.SetMode q m) S h = absurd (let z : ⊥ = cc in z)
-  control_by (deed.PurgeQueue q) S h = absurd (let z : ⊥ = cc in z)
   control_by (deed.CloseReturning d) S h = each (λ (S : State A). S.control) close_returning (λ S q. refl) (managed_queues plan d.0) S
-  control_by (deed.CloseDevice d) S h = absurd (let z : ⊥ = cc in z)
-  control_by (deed.RegisterQueue q on) S h = absurd (let z : ⊥ = cc in z)
-  control_by (deed.NotifyQueue q) S h = absurd (let z : ⊥ = cc in z)
-  control_by _ S h = refl
+  control_by _ S h = cc
 
-  -- power
   pub power_by : (d : Deed) (S : State A) → has_piece DevicePower (changed_by cpu d) ≡ false → S.power ≡ (do_deed plan d S).power
   power_by (deed.Arrive device info p) S h = arrives (λ (S : State A). S.power) (λ S T R. refl) (λ S Q K. refl) S device.0 info p
   power_by (deed.AskDeletion o) S h = asks (λ (S : State A). S.power) (λ S T D W M. refl) (subtree S.tree o.0) S
-  power_by (deed.Present q r) S h = absurd (let z : ⊥ = cc in z)
-  power_by (deed.Receive q r) S h = absurd (let z : ⊥ = cc in z)
-  power_by (deed.Requeue r q) S h = absurd (let z : ⊥ = cc in z)
-  power_by (deed.Forward r q) S h = absurd (let z : ⊥ = cc in z)
-  power_by (deed.GiveBack r q) S h = absurd (let z : ⊥ = cc in z)
-  power_by (deed.SendRequest r t forget) S h = absurd (let z : ⊥ = cc in z)
-  power_by (deed.CompleteRequest r) S h = absurd (let z : ⊥ = cc in z)
   power_by (deed.PurgeQueue q) S h = each (λ (S : State A). S.power) (withdraw plan q.0) (λ S r. refl) (waiting_in S.queues q.0) (record S { control = control.set_mode S.control q.0 mode.Purged })
   power_by (deed.CloseReturning d) S h = each (λ (S : State A). S.power) close_returning (λ S q. refl) (managed_queues plan d.0) S
   power_by (deed.CloseDevice d) S h = each (λ (S : State A). S.power) close_queue (λ S q. refl) (queues_of plan d.0) (record S { control = control.shut S.control d.0 })
-  power_by (deed.AdvancePower d s) S h = absurd (let z : ⊥ = cc in z)
-  power_by (deed.Acknowledge r) S h = absurd (let z : ⊥ = cc in z)
-  power_by (deed.AskStop r) S h = absurd (let z : ⊥ = cc in z)
-  power_by (deed.Resume r) S h = absurd (let z : ⊥ = cc in z)
-  power_by _ S h = refl
+  power_by _ S h = cc
 
-  -- pnp
-  pub pnp_by : (d : Deed) (S : State A) → has_piece DeviceSteps (changed_by cpu d) ≡ false → S.pnp ≡ (do_deed plan d S).pnp
-  pnp_by (deed.Arrive device info p) S h = arrives (λ (S : State A). S.pnp) (λ S T R. refl) (λ S Q K. refl) S device.0 info p
-  pnp_by (deed.AskDeletion o) S h = asks (λ (S : State A). S.pnp) (λ S T D W M. refl) (subtree S.tree o.0) S
-  pnp_by (deed.Requeue r q) S h = gives (λ (S : State A). S.pnp) (λ S Q P. refl) r.0 S
-  pnp_by (deed.Forward r q) S h = gives (λ (S : State A). S.pnp) (λ S Q P. refl) r.0 S
-  pnp_by (deed.GiveBack r q) S h = gives (λ (S : State A). S.pnp) (λ S Q P. refl) r.0 S
-  pnp_by (deed.SendRequest r t forget) S h = gives_if (λ (S : State A). S.pnp) (λ S Q P. refl) forget r.0 S
-  pnp_by (deed.CompleteRequest r) S h = gives (λ (S : State A). S.pnp) (λ S Q P. refl) r.0 S ∙ asks (λ (S : State A). S.pnp) (λ S T D W M. refl) (subtree (give_up S r.0).tree r.0) (record (give_up S r.0) { requests = requests.complete S.requests r.0 })
-  pnp_by (deed.PurgeQueue q) S h = each (λ (S : State A). S.pnp) (withdraw plan q.0) (λ S r. refl) (waiting_in S.queues q.0) (record S { control = control.set_mode S.control q.0 mode.Purged })
-  pnp_by (deed.CloseReturning d) S h = each (λ (S : State A). S.pnp) close_returning (λ S q. refl) (managed_queues plan d.0) S
-  pnp_by (deed.CloseDevice d) S h = each (λ (S : State A). S.pnp) close_queue (λ S q. refl) (queues_of plan d.0) (record S { control = control.shut S.control d.0 })
-  pnp_by (deed.AskDevice d a) S h = absurd (let z : ⊥ = cc in z)
-  pnp_by (deed.TakeStep d) S h = absurd (let z : ⊥ = cc in z)
-  pnp_by (deed.EndStep d s v) S h = absurd (let z : ⊥ = cc in z)
-  pnp_by _ S h = refl
-
-  -- interrupts
-  pub interrupts_by : (d : Deed) (S : State A) → has_piece EnabledInterrupts (changed_by cpu d) ≡ false → S.interrupts ≡ (do_deed plan d S).interrupts
-  interrupts_by (deed.Arrive device info p) S h = arrives (λ (S : State A). S.interrupts) (λ S T R. refl) (λ S Q K. refl) S device.0 info p
-  interrupts_by (deed.AskDeletion o) S h = asks (λ (S : State A). S.interrupts) (λ S T D W M. refl) (subtree S.tree o.0) S
-  interrupts_by (deed.Requeue r q) S h = gives (λ (S : State A). S.interrupts) (λ S Q P. refl) r.0 S
-  interrupts_by (deed.Forward r q) S h = gives (λ (S : State A). S.interrupts) (λ S Q P. refl) r.0 S
-  interrupts_by (deed.GiveBack r q) S h = gives (λ (S : State A). S.interrupts) (λ S Q P. refl) r.0 S
-  interrupts_by (deed.SendRequest r t forget) S h = gives_if (λ (S : State A). S.interrupts) (λ S Q P. refl) forget r.0 S
-  interrupts_by (deed.CompleteRequest r) S h = gives (λ (S : State A). S.interrupts) (λ S Q P. refl) r.0 S ∙ asks (λ (S : State A). S.interrupts) (λ S T D W M. refl) (subtree (give_up S r.0).tree r.0) (record (give_up S r.0) { requests = requests.complete S.requests r.0 })
-  interrupts_by (deed.PurgeQueue q) S h = each (λ (S : State A). S.interrupts) (withdraw plan q.0) (λ S r. refl) (waiting_in S.queues q.0) (record S { control = control.set_mode S.control q.0 mode.Purged })
-  interrupts_by (deed.CloseReturning d) S h = each (λ (S : State A). S.interrupts) close_returning (λ S q. refl) (managed_queues plan d.0) S
-  interrupts_by (deed.CloseDevice d) S h = each (λ (S : State A). S.interrupts) close_queue (λ S q. refl) (queues_of plan d.0) (record S { control = control.shut S.control d.0 })
-  interrupts_by (deed.EnableInterrupt i) S h = absurd (let z : ⊥ = cc in z)
-  interrupts_by (deed.DisableInterrupt i) S h = absurd (let z : ⊥ = cc in z)
-  interrupts_by _ S h = refl
-
-  -- dpcs
   pub dpcs_by : (d : Deed) (S : State A) → has_piece DpcLists (changed_by cpu d) ≡ false → S.dpcs ≡ (do_deed plan d S).dpcs
   dpcs_by (deed.Arrive device info p) S h = arrives (λ (S : State A). S.dpcs) (λ S T R. refl) (λ S Q K. refl) S device.0 info p
-  dpcs_by (deed.AskDeletion o) S h = absurd (let z : ⊥ = cc in z)
   dpcs_by (deed.Requeue r q) S h = gives (λ (S : State A). S.dpcs) (λ S Q P. refl) r.0 S
   dpcs_by (deed.Forward r q) S h = gives (λ (S : State A). S.dpcs) (λ S Q P. refl) r.0 S
   dpcs_by (deed.GiveBack r q) S h = gives (λ (S : State A). S.dpcs) (λ S Q P. refl) r.0 S
   dpcs_by (deed.SendRequest r t forget) S h = gives_if (λ (S : State A). S.dpcs) (λ S Q P. refl) forget r.0 S
-  dpcs_by (deed.CompleteRequest r) S h = absurd (let z : ⊥ = cc in z)
   dpcs_by (deed.PurgeQueue q) S h = each (λ (S : State A). S.dpcs) (withdraw plan q.0) (λ S r. refl) (waiting_in S.queues q.0) (record S { control = control.set_mode S.control q.0 mode.Purged })
   dpcs_by (deed.CloseReturning d) S h = each (λ (S : State A). S.dpcs) close_returning (λ S q. refl) (managed_queues plan d.0) S
   dpcs_by (deed.CloseDevice d) S h = each (λ (S : State A). S.dpcs) close_queue (λ S q. refl) (queues_of plan d.0) (record S { control = control.shut S.control d.0 })
-  dpcs_by (deed.EnqueueDpc on o) S h = absurd (let z : ⊥ = cc in z)
-  dpcs_by (deed.CancelDpc o) S h = absurd (let z : ⊥ = cc in z)
-  dpcs_by (deed.TakeDpc on) S h = absurd (let z : ⊥ = cc in z)
-  dpcs_by _ S h = refl
+  dpcs_by _ S h = cc
 
-  -- work_items
   pub work_items_by : (d : Deed) (S : State A) → has_piece WorkQueue (changed_by cpu d) ≡ false → S.work_items ≡ (do_deed plan d S).work_items
   work_items_by (deed.Arrive device info p) S h = arrives (λ (S : State A). S.work_items) (λ S T R. refl) (λ S Q K. refl) S device.0 info p
-  work_items_by (deed.AskDeletion o) S h = absurd (let z : ⊥ = cc in z)
   work_items_by (deed.Requeue r q) S h = gives (λ (S : State A). S.work_items) (λ S Q P. refl) r.0 S
   work_items_by (deed.Forward r q) S h = gives (λ (S : State A). S.work_items) (λ S Q P. refl) r.0 S
   work_items_by (deed.GiveBack r q) S h = gives (λ (S : State A). S.work_items) (λ S Q P. refl) r.0 S
   work_items_by (deed.SendRequest r t forget) S h = gives_if (λ (S : State A). S.work_items) (λ S Q P. refl) forget r.0 S
-  work_items_by (deed.CompleteRequest r) S h = absurd (let z : ⊥ = cc in z)
   work_items_by (deed.PurgeQueue q) S h = each (λ (S : State A). S.work_items) (withdraw plan q.0) (λ S r. refl) (waiting_in S.queues q.0) (record S { control = control.set_mode S.control q.0 mode.Purged })
   work_items_by (deed.CloseReturning d) S h = each (λ (S : State A). S.work_items) close_returning (λ S q. refl) (managed_queues plan d.0) S
   work_items_by (deed.CloseDevice d) S h = each (λ (S : State A). S.work_items) close_queue (λ S q. refl) (queues_of plan d.0) (record S { control = control.shut S.control d.0 })
-  work_items_by (deed.EnqueueWork o) S h = absurd (let z : ⊥ = cc in z)
-  work_items_by (deed.CancelWork o) S h = absurd (let z : ⊥ = cc in z)
-  work_items_by _ S h = refl
+  work_items_by _ S h = cc
 
-  -- timers
   pub timers_by : (d : Deed) (S : State A) → has_piece TimerQueue (changed_by cpu d) ≡ false → S.timers ≡ (do_deed plan d S).timers
   timers_by (deed.Arrive device info p) S h = arrives (λ (S : State A). S.timers) (λ S T R. refl) (λ S Q K. refl) S device.0 info p
-  timers_by (deed.AskDeletion o) S h = absurd (let z : ⊥ = cc in z)
   timers_by (deed.Requeue r q) S h = gives (λ (S : State A). S.timers) (λ S Q P. refl) r.0 S
   timers_by (deed.Forward r q) S h = gives (λ (S : State A). S.timers) (λ S Q P. refl) r.0 S
   timers_by (deed.GiveBack r q) S h = gives (λ (S : State A). S.timers) (λ S Q P. refl) r.0 S
   timers_by (deed.SendRequest r t forget) S h = gives_if (λ (S : State A). S.timers) (λ S Q P. refl) forget r.0 S
-  timers_by (deed.CompleteRequest r) S h = absurd (let z : ⊥ = cc in z)
   timers_by (deed.PurgeQueue q) S h = each (λ (S : State A). S.timers) (withdraw plan q.0) (λ S r. refl) (waiting_in S.queues q.0) (record S { control = control.set_mode S.control q.0 mode.Purged })
   timers_by (deed.CloseReturning d) S h = each (λ (S : State A). S.timers) close_returning (λ S q. refl) (managed_queues plan d.0) S
   timers_by (deed.CloseDevice d) S h = each (λ (S : State A). S.timers) close_queue (λ S q. refl) (queues_of plan d.0) (record S { control = control.shut S.control d.0 })
-  timers_by (deed.StartTimer o ticks) S h = absurd (let z : ⊥ = cc in z)
-  timers_by (deed.StopTimer o) S h = absurd (let z : ⊥ = cc in z)
-  timers_by (deed.FireTimer o period) S h = absurd (let z : ⊥ = cc in z)
-  timers_by _ S h = refl
+  timers_by _ S h = cc
 
-  -- targets
   pub targets_by : (d : Deed) (S : State A) → has_piece TargetTable (changed_by cpu d) ≡ false → S.targets ≡ (do_deed plan d S).targets
   targets_by (deed.Arrive device info p) S h = arrives (λ (S : State A). S.targets) (λ S T R. refl) (λ S Q K. refl) S device.0 info p
   targets_by (deed.AskDeletion o) S h = asks (λ (S : State A). S.targets) (λ S T D W M. refl) (subtree S.tree o.0) S
   targets_by (deed.Requeue r q) S h = gives (λ (S : State A). S.targets) (λ S Q P. refl) r.0 S
   targets_by (deed.Forward r q) S h = gives (λ (S : State A). S.targets) (λ S Q P. refl) r.0 S
   targets_by (deed.GiveBack r q) S h = gives (λ (S : State A). S.targets) (λ S Q P. refl) r.0 S
-  targets_by (deed.SendRequest r t forget) S h = absurd (let z : ⊥ = cc in z)
-  targets_by (deed.FinishSending r s) S h = absurd (let z : ⊥ = cc in z)
-  targets_by (deed.ComeBack r) S h = absurd (let z : ⊥ = cc in z)
   targets_by (deed.CompleteRequest r) S h = gives (λ (S : State A). S.targets) (λ S Q P. refl) r.0 S ∙ asks (λ (S : State A). S.targets) (λ S T D W M. refl) (subtree (give_up S r.0).tree r.0) (record (give_up S r.0) { requests = requests.complete S.requests r.0 })
   targets_by (deed.PurgeQueue q) S h = each (λ (S : State A). S.targets) (withdraw plan q.0) (λ S r. refl) (waiting_in S.queues q.0) (record S { control = control.set_mode S.control q.0 mode.Purged })
   targets_by (deed.CloseReturning d) S h = each (λ (S : State A). S.targets) close_returning (λ S q. refl) (managed_queues plan d.0) S
   targets_by (deed.CloseDevice d) S h = each (λ (S : State A). S.targets) close_queue (λ S q. refl) (queues_of plan d.0) (record S { control = control.shut S.control d.0 })
-  targets_by (deed.StopTarget t) S h = absurd (let z : ⊥ = cc in z)
-  targets_by (deed.StartTarget t) S h = absurd (let z : ⊥ = cc in z)
-  targets_by _ S h = refl
+  targets_by _ S h = cc
 
-  -- clock
+  -- ---- the other parts
+
+  plain_locks : (d : Deed) (S : State A) → has_piece HeldLocks (changed_by cpu d) ≡ false → is_compound d ≡ false → S.locks ≡ (do_deed plan d S).locks
+  plain_locks (deed.TakeLock l f by_call) S h is = absurd (let z : ⊥ = cc in z)
+  plain_locks _ S h is = cc
+
+  pub locks_by : (d : Deed) (S : State A) → has_piece HeldLocks (changed_by cpu d) ≡ false → S.locks ≡ (do_deed plan d S).locks
+  locks_by d S h = stays plan (λ (U : State A). U.locks) (λ S T D W M Q P R K N. refl) d S (plain_locks d S h)
+
+  plain_pnp : (d : Deed) (S : State A) → has_piece DeviceSteps (changed_by cpu d) ≡ false → is_compound d ≡ false → S.pnp ≡ (do_deed plan d S).pnp
+  plain_pnp (deed.AskDevice d a) S h is = absurd (let z : ⊥ = cc in z)
+  plain_pnp _ S h is = cc
+
+  pub pnp_by : (d : Deed) (S : State A) → has_piece DeviceSteps (changed_by cpu d) ≡ false → S.pnp ≡ (do_deed plan d S).pnp
+  pnp_by d S h = stays plan (λ (U : State A). U.pnp) (λ S T D W M Q P R K N. refl) d S (plain_pnp d S h)
+
+  plain_interrupts : (d : Deed) (S : State A) → has_piece EnabledInterrupts (changed_by cpu d) ≡ false → is_compound d ≡ false → S.interrupts ≡ (do_deed plan d S).interrupts
+  plain_interrupts (deed.EnableInterrupt i) S h is = absurd (let z : ⊥ = cc in z)
+  plain_interrupts _ S h is = cc
+
+  pub interrupts_by : (d : Deed) (S : State A) → has_piece EnabledInterrupts (changed_by cpu d) ≡ false → S.interrupts ≡ (do_deed plan d S).interrupts
+  interrupts_by d S h = stays plan (λ (U : State A). U.interrupts) (λ S T D W M Q P R K N. refl) d S (plain_interrupts d S h)
+
+  plain_clock : (d : Deed) (S : State A) → has_piece ClockTick (changed_by cpu d) ≡ false → is_compound d ≡ false → S.clock ≡ (do_deed plan d S).clock
+  plain_clock deed.PassTick S h is = absurd (let z : ⊥ = cc in z)
+  plain_clock _ S h is = cc
+
   pub clock_by : (d : Deed) (S : State A) → has_piece ClockTick (changed_by cpu d) ≡ false → S.clock ≡ (do_deed plan d S).clock
-  clock_by (deed.Arrive device info p) S h = arrives (λ (S : State A). S.clock) (λ S T R. refl) (λ S Q K. refl) S device.0 info p
-  clock_by (deed.AskDeletion o) S h = asks (λ (S : State A). S.clock) (λ S T D W M. refl) (subtree S.tree o.0) S
-  clock_by (deed.Requeue r q) S h = gives (λ (S : State A). S.clock) (λ S Q P. refl) r.0 S
-  clock_by (deed.Forward r q) S h = gives (λ (S : State A). S.clock) (λ S Q P. refl) r.0 S
-  clock_by (deed.GiveBack r q) S h = gives (λ (S : State A). S.clock) (λ S Q P. refl) r.0 S
-  clock_by (deed.SendRequest r t forget) S h = gives_if (λ (S : State A). S.clock) (λ S Q P. refl) forget r.0 S
-  clock_by (deed.CompleteRequest r) S h = gives (λ (S : State A). S.clock) (λ S Q P. refl) r.0 S ∙ asks (λ (S : State A). S.clock) (λ S T D W M. refl) (subtree (give_up S r.0).tree r.0) (record (give_up S r.0) { requests = requests.complete S.requests r.0 })
-  clock_by (deed.PurgeQueue q) S h = each (λ (S : State A). S.clock) (withdraw plan q.0) (λ S r. refl) (waiting_in S.queues q.0) (record S { control = control.set_mode S.control q.0 mode.Purged })
-  clock_by (deed.CloseReturning d) S h = each (λ (S : State A). S.clock) close_returning (λ S q. refl) (managed_queues plan d.0) S
-  clock_by (deed.CloseDevice d) S h = each (λ (S : State A). S.clock) close_queue (λ S q. refl) (queues_of plan d.0) (record S { control = control.shut S.control d.0 })
-  clock_by deed.PassTick S h = absurd (let z : ⊥ = cc in z)
-  clock_by _ S h = refl
+  clock_by d S h = stays plan (λ (U : State A). U.clock) (λ S T D W M Q P R K N. refl) d S (plain_clock d S h)
 
-  -- levels
+  plain_levels : (d : Deed) (S : State A) → has_piece (Processor cpu) (changed_by cpu d) ≡ false → is_compound d ≡ false → S.cpus.levels ≡ (do_deed plan d S).cpus.levels
+  plain_levels (deed.Raise f level) S h is = absurd (it_is_there cpu h)
+  plain_levels (deed.Lower f level) S h is = absurd (it_is_there cpu h)
+  plain_levels (deed.PopFrame on) S h is = absurd (it_is_there cpu h)
+  plain_levels _ S h is = cc
+
   pub levels_by : (d : Deed) (S : State A) → has_piece (Processor cpu) (changed_by cpu d) ≡ false → S.cpus.levels ≡ (do_deed plan d S).cpus.levels
-  levels_by (deed.Arrive device info p) S h = arrives (λ (S : State A). S.cpus.levels) (λ S T R. refl) (λ S Q K. refl) S device.0 info p
-  levels_by (deed.AskDeletion o) S h = asks (λ (S : State A). S.cpus.levels) (λ S T D W M. refl) (subtree S.tree o.0) S
-  levels_by (deed.Raise f level) S h = absurd (it_is_there cpu h)
-  levels_by (deed.Lower f level) S h = absurd (it_is_there cpu h)
-  levels_by (deed.PopFrame on) S h = absurd (it_is_there cpu h)
-  levels_by (deed.Requeue r q) S h = gives (λ (S : State A). S.cpus.levels) (λ S Q P. refl) r.0 S
-  levels_by (deed.Forward r q) S h = gives (λ (S : State A). S.cpus.levels) (λ S Q P. refl) r.0 S
-  levels_by (deed.GiveBack r q) S h = gives (λ (S : State A). S.cpus.levels) (λ S Q P. refl) r.0 S
-  levels_by (deed.SendRequest r t forget) S h = gives_if (λ (S : State A). S.cpus.levels) (λ S Q P. refl) forget r.0 S
-  levels_by (deed.CompleteRequest r) S h = gives (λ (S : State A). S.cpus.levels) (λ S Q P. refl) r.0 S ∙ asks (λ (S : State A). S.cpus.levels) (λ S T D W M. refl) (subtree (give_up S r.0).tree r.0) (record (give_up S r.0) { requests = requests.complete S.requests r.0 })
-  levels_by (deed.PurgeQueue q) S h = each (λ (S : State A). S.cpus.levels) (withdraw plan q.0) (λ S r. refl) (waiting_in S.queues q.0) (record S { control = control.set_mode S.control q.0 mode.Purged })
-  levels_by (deed.CloseReturning d) S h = each (λ (S : State A). S.cpus.levels) close_returning (λ S q. refl) (managed_queues plan d.0) S
-  levels_by (deed.CloseDevice d) S h = each (λ (S : State A). S.cpus.levels) close_queue (λ S q. refl) (queues_of plan d.0) (record S { control = control.shut S.control d.0 })
-  levels_by _ S h = refl
+  levels_by d S h = stays plan (λ (U : State A). U.cpus.levels) (λ S T D W M Q P R K N. refl) d S (plain_levels d S h)
 
-  -- frames
+  plain_frames : (d : Deed) (S : State A) → has_piece (TopFrame cpu) (changed_by cpu d) ≡ false → is_compound d ≡ false → S.cpus.frames ≡ (do_deed plan d S).cpus.frames
+  plain_frames (deed.PushFrame on f frame level) S h is = absurd (it_is_there cpu h)
+  plain_frames (deed.GoOn f frame) S h is = absurd (it_is_there cpu h)
+  plain_frames (deed.PopFrame on) S h is = absurd (it_is_there cpu h)
+  plain_frames _ S h is = cc
+
   pub frames_by : (d : Deed) (S : State A) → has_piece (TopFrame cpu) (changed_by cpu d) ≡ false → S.cpus.frames ≡ (do_deed plan d S).cpus.frames
-  frames_by (deed.Arrive device info p) S h = arrives (λ (S : State A). S.cpus.frames) (λ S T R. refl) (λ S Q K. refl) S device.0 info p
-  frames_by (deed.AskDeletion o) S h = asks (λ (S : State A). S.cpus.frames) (λ S T D W M. refl) (subtree S.tree o.0) S
-  frames_by (deed.PushFrame on f frame level) S h = absurd (it_is_there cpu h)
-  frames_by (deed.GoOn f frame) S h = absurd (it_is_there cpu h)
-  frames_by (deed.PopFrame on) S h = absurd (it_is_there cpu h)
-  frames_by (deed.Requeue r q) S h = gives (λ (S : State A). S.cpus.frames) (λ S Q P. refl) r.0 S
-  frames_by (deed.Forward r q) S h = gives (λ (S : State A). S.cpus.frames) (λ S Q P. refl) r.0 S
-  frames_by (deed.GiveBack r q) S h = gives (λ (S : State A). S.cpus.frames) (λ S Q P. refl) r.0 S
-  frames_by (deed.SendRequest r t forget) S h = gives_if (λ (S : State A). S.cpus.frames) (λ S Q P. refl) forget r.0 S
-  frames_by (deed.CompleteRequest r) S h = gives (λ (S : State A). S.cpus.frames) (λ S Q P. refl) r.0 S ∙ asks (λ (S : State A). S.cpus.frames) (λ S T D W M. refl) (subtree (give_up S r.0).tree r.0) (record (give_up S r.0) { requests = requests.complete S.requests r.0 })
-  frames_by (deed.PurgeQueue q) S h = each (λ (S : State A). S.cpus.frames) (withdraw plan q.0) (λ S r. refl) (waiting_in S.queues q.0) (record S { control = control.set_mode S.control q.0 mode.Purged })
-  frames_by (deed.CloseReturning d) S h = each (λ (S : State A). S.cpus.frames) close_returning (λ S q. refl) (managed_queues plan d.0) S
-  frames_by (deed.CloseDevice d) S h = each (λ (S : State A). S.cpus.frames) close_queue (λ S q. refl) (queues_of plan d.0) (record S { control = control.shut S.control d.0 })
-  frames_by _ S h = refl
+  frames_by d S h = stays plan (λ (U : State A). U.cpus.frames) (λ S T D W M Q P R K N. refl) d S (plain_frames d S h)
 
-  -- stacks_at
+  plain_stacks_at : (d : Deed) (S : State A) → has_piece (TopFrame cpu) (changed_by cpu d) ≡ false → is_compound d ≡ false → S.cpus.stacks ≡ (do_deed plan d S).cpus.stacks
+  plain_stacks_at (deed.PushFrame on f frame level) S h is = absurd (it_is_there cpu h)
+  plain_stacks_at (deed.PopFrame on) S h is = absurd (it_is_there cpu h)
+  plain_stacks_at (deed.ParkFrame on) S h is = absurd (it_is_there cpu h)
+  plain_stacks_at (deed.UnparkFrame on f) S h is = absurd (it_is_there cpu h)
+  plain_stacks_at _ S h is = cc
+
   pub stacks_at_by : (d : Deed) (S : State A) → has_piece (TopFrame cpu) (changed_by cpu d) ≡ false → S.cpus.stacks ≡ (do_deed plan d S).cpus.stacks
-  stacks_at_by (deed.Arrive device info p) S h = arrives (λ (S : State A). S.cpus.stacks) (λ S T R. refl) (λ S Q K. refl) S device.0 info p
-  stacks_at_by (deed.AskDeletion o) S h = asks (λ (S : State A). S.cpus.stacks) (λ S T D W M. refl) (subtree S.tree o.0) S
-  stacks_at_by (deed.PushFrame on f frame level) S h = absurd (it_is_there cpu h)
-  stacks_at_by (deed.PopFrame on) S h = absurd (it_is_there cpu h)
-  stacks_at_by (deed.ParkFrame on) S h = absurd (it_is_there cpu h)
-  stacks_at_by (deed.UnparkFrame on f) S h = absurd (it_is_there cpu h)
-  stacks_at_by (deed.Requeue r q) S h = gives (λ (S : State A). S.cpus.stacks) (λ S Q P. refl) r.0 S
-  stacks_at_by (deed.Forward r q) S h = gives (λ (S : State A). S.cpus.stacks) (λ S Q P. refl) r.0 S
-  stacks_at_by (deed.GiveBack r q) S h = gives (λ (S : State A). S.cpus.stacks) (λ S Q P. refl) r.0 S
-  stacks_at_by (deed.SendRequest r t forget) S h = gives_if (λ (S : State A). S.cpus.stacks) (λ S Q P. refl) forget r.0 S
-  stacks_at_by (deed.CompleteRequest r) S h = gives (λ (S : State A). S.cpus.stacks) (λ S Q P. refl) r.0 S ∙ asks (λ (S : State A). S.cpus.stacks) (λ S T D W M. refl) (subtree (give_up S r.0).tree r.0) (record (give_up S r.0) { requests = requests.complete S.requests r.0 })
-  stacks_at_by (deed.PurgeQueue q) S h = each (λ (S : State A). S.cpus.stacks) (withdraw plan q.0) (λ S r. refl) (waiting_in S.queues q.0) (record S { control = control.set_mode S.control q.0 mode.Purged })
-  stacks_at_by (deed.CloseReturning d) S h = each (λ (S : State A). S.cpus.stacks) close_returning (λ S q. refl) (managed_queues plan d.0) S
-  stacks_at_by (deed.CloseDevice d) S h = each (λ (S : State A). S.cpus.stacks) close_queue (λ S q. refl) (queues_of plan d.0) (record S { control = control.shut S.control d.0 })
-  stacks_at_by _ S h = refl
+  stacks_at_by d S h = stays plan (λ (U : State A). U.cpus.stacks) (λ S T D W M Q P R K N. refl) d S (plain_stacks_at d S h)
 
-  -- parked_at
+  plain_parked_at : (d : Deed) (S : State A) → has_piece (TopFrame cpu) (changed_by cpu d) ≡ false → is_compound d ≡ false → S.cpus.parked ≡ (do_deed plan d S).cpus.parked
+  plain_parked_at (deed.ParkFrame on) S h is = absurd (it_is_there cpu h)
+  plain_parked_at (deed.UnparkFrame on f) S h is = absurd (it_is_there cpu h)
+  plain_parked_at _ S h is = cc
+
   pub parked_at_by : (d : Deed) (S : State A) → has_piece (TopFrame cpu) (changed_by cpu d) ≡ false → S.cpus.parked ≡ (do_deed plan d S).cpus.parked
-  parked_at_by (deed.Arrive device info p) S h = arrives (λ (S : State A). S.cpus.parked) (λ S T R. refl) (λ S Q K. refl) S device.0 info p
-  parked_at_by (deed.AskDeletion o) S h = asks (λ (S : State A). S.cpus.parked) (λ S T D W M. refl) (subtree S.tree o.0) S
-  parked_at_by (deed.ParkFrame on) S h = absurd (it_is_there cpu h)
-  parked_at_by (deed.UnparkFrame on f) S h = absurd (it_is_there cpu h)
-  parked_at_by (deed.Requeue r q) S h = gives (λ (S : State A). S.cpus.parked) (λ S Q P. refl) r.0 S
-  parked_at_by (deed.Forward r q) S h = gives (λ (S : State A). S.cpus.parked) (λ S Q P. refl) r.0 S
-  parked_at_by (deed.GiveBack r q) S h = gives (λ (S : State A). S.cpus.parked) (λ S Q P. refl) r.0 S
-  parked_at_by (deed.SendRequest r t forget) S h = gives_if (λ (S : State A). S.cpus.parked) (λ S Q P. refl) forget r.0 S
-  parked_at_by (deed.CompleteRequest r) S h = gives (λ (S : State A). S.cpus.parked) (λ S Q P. refl) r.0 S ∙ asks (λ (S : State A). S.cpus.parked) (λ S T D W M. refl) (subtree (give_up S r.0).tree r.0) (record (give_up S r.0) { requests = requests.complete S.requests r.0 })
-  parked_at_by (deed.PurgeQueue q) S h = each (λ (S : State A). S.cpus.parked) (withdraw plan q.0) (λ S r. refl) (waiting_in S.queues q.0) (record S { control = control.set_mode S.control q.0 mode.Purged })
-  parked_at_by (deed.CloseReturning d) S h = each (λ (S : State A). S.cpus.parked) close_returning (λ S q. refl) (managed_queues plan d.0) S
-  parked_at_by (deed.CloseDevice d) S h = each (λ (S : State A). S.cpus.parked) close_queue (λ S q. refl) (queues_of plan d.0) (record S { control = control.shut S.control d.0 })
-  parked_at_by _ S h = refl
+  parked_at_by d S h = stays plan (λ (U : State A). U.cpus.parked) (λ S T D W M Q P R K N. refl) d S (plain_parked_at d S h)
 
   -- ---- lists of deeds
 
@@ -408,50 +312,26 @@ module _ {A : Type 0} (plan : Plan) (cpu : ℕ) where
 -- ---- the processors
 
 module _ {A : Type 0} (plan : Plan) where
-  -- by a deed that is none of theirs
+  plain_cpus : (d : Deed) (S : State A) → is_quiet d ≡ true → is_compound d ≡ false → S.cpus ≡ (do_deed plan d S).cpus
+  plain_cpus (deed.PushFrame on f frame level) S h is = absurd (let z : ⊥ = cc in z)
+  plain_cpus _ S h is = cc
+
+  -- the processors stay by a deed that is none of theirs
   cpus_by : (d : Deed) (S : State A) → is_quiet d ≡ true → S.cpus ≡ (do_deed plan d S).cpus
-  cpus_by (deed.Arrive device info p) S h = arrives (λ (S : State A). S.cpus) (λ S T R. refl) (λ S Q K. refl) S device.0 info p
-  cpus_by (deed.AskDeletion o) S h = asks (λ (S : State A). S.cpus) (λ S T D W M. refl) (subtree S.tree o.0) S
-  cpus_by (deed.PushFrame on f frame level) S h = absurd (let z : ⊥ = cc in z)
-  cpus_by (deed.GoOn f frame) S h = absurd (let z : ⊥ = cc in z)
-  cpus_by (deed.Raise f level) S h = absurd (let z : ⊥ = cc in z)
-  cpus_by (deed.Lower f level) S h = absurd (let z : ⊥ = cc in z)
-  cpus_by (deed.PopFrame on) S h = absurd (let z : ⊥ = cc in z)
-  cpus_by (deed.ParkFrame on) S h = absurd (let z : ⊥ = cc in z)
-  cpus_by (deed.UnparkFrame on f) S h = absurd (let z : ⊥ = cc in z)
-  cpus_by (deed.Requeue r q) S h = gives (λ (S : State A). S.cpus) (λ S Q P. refl) r.0 S
-  cpus_by (deed.Forward r q) S h = gives (λ (S : State A). S.cpus) (λ S Q P. refl) r.0 S
-  cpus_by (deed.GiveBack r q) S h = gives (λ (S : State A). S.cpus) (λ S Q P. refl) r.0 S
-  cpus_by (deed.SendRequest r t forget) S h = gives_if (λ (S : State A). S.cpus) (λ S Q P. refl) forget r.0 S
-  cpus_by (deed.CompleteRequest r) S h = gives (λ (S : State A). S.cpus) (λ S Q P. refl) r.0 S ∙ asks (λ (S : State A). S.cpus) (λ S T D W M. refl) (subtree (give_up S r.0).tree r.0) (record (give_up S r.0) { requests = requests.complete S.requests r.0 })
-  cpus_by (deed.PurgeQueue q) S h = each (λ (S : State A). S.cpus) (withdraw plan q.0) (λ S r. refl) (waiting_in S.queues q.0) (record S { control = control.set_mode S.control q.0 mode.Purged })
-  cpus_by (deed.CloseReturning d) S h = each (λ (S : State A). S.cpus) close_returning (λ S q. refl) (managed_queues plan d.0) S
-  cpus_by (deed.CloseDevice d) S h = each (λ (S : State A). S.cpus) close_queue (λ S q. refl) (queues_of plan d.0) (record S { control = control.shut S.control d.0 })
-  cpus_by _ S h = refl
+  cpus_by d S h = stays plan (λ (U : State A). U.cpus) (λ S T D W M Q P R K N. refl) d S (plain_cpus d S h)
 
   pub all_quiet_by : (ds : List Deed) (S : State A) → list_all is_quiet ds ≡ true → S.cpus ≡ (do_deeds plan ds S).cpus
   all_quiet_by [] S h = refl
   all_quiet_by (d ∷ ds) S h = cpus_by d S (both_left (is_quiet d) (list_all is_quiet ds) h) ∙ all_quiet_by ds (do_deed plan d S) (both_right (is_quiet d) (list_all is_quiet ds) h)
 
-  -- the levels of a frame, by a deed that raises and lowers another alone
-  levels_of_by : (f x : ℕ) → x ≢ f → (d : Deed) (S : State A) → is_of_frame f d ≡ true → levels_of S.cpus x ≡ levels_of (do_deed plan d S).cpus x
-  levels_of_by e x not_it (deed.Arrive device info p) S h = arrives (λ (S : State A). levels_of S.cpus x) (λ S T R. refl) (λ S Q K. refl) S device.0 info p
-  levels_of_by e x not_it (deed.AskDeletion o) S h = asks (λ (S : State A). levels_of S.cpus x) (λ S T D W M. refl) (subtree S.tree o.0) S
-  levels_of_by e x not_it (deed.PushFrame on f frame level) S h = absurd (let z : ⊥ = cc in z)
-  levels_of_by e x not_it (deed.Raise f level) S h = rw (differs f.0 e x h (λ same. not_it (sym same))) refl
-  levels_of_by e x not_it (deed.Lower f level) S h = ap (map (λ (l : HeldLevel). l.level.0)) (less_other f.0 level.0 x (differs f.0 e x h (λ same. not_it (sym same))) S.cpus.levels)
-  levels_of_by e x not_it (deed.PopFrame on) S h = absurd (let z : ⊥ = cc in z)
-  levels_of_by e x not_it (deed.ParkFrame on) S h = absurd (let z : ⊥ = cc in z)
-  levels_of_by e x not_it (deed.UnparkFrame on f) S h = absurd (let z : ⊥ = cc in z)
-  levels_of_by e x not_it (deed.Requeue r q) S h = gives (λ (S : State A). levels_of S.cpus x) (λ S Q P. refl) r.0 S
-  levels_of_by e x not_it (deed.Forward r q) S h = gives (λ (S : State A). levels_of S.cpus x) (λ S Q P. refl) r.0 S
-  levels_of_by e x not_it (deed.GiveBack r q) S h = gives (λ (S : State A). levels_of S.cpus x) (λ S Q P. refl) r.0 S
-  levels_of_by e x not_it (deed.SendRequest r t forget) S h = gives_if (λ (S : State A). levels_of S.cpus x) (λ S Q P. refl) forget r.0 S
-  levels_of_by e x not_it (deed.CompleteRequest r) S h = gives (λ (S : State A). levels_of S.cpus x) (λ S Q P. refl) r.0 S ∙ asks (λ (S : State A). levels_of S.cpus x) (λ S T D W M. refl) (subtree (give_up S r.0).tree r.0) (record (give_up S r.0) { requests = requests.complete S.requests r.0 })
-  levels_of_by e x not_it (deed.PurgeQueue q) S h = each (λ (S : State A). levels_of S.cpus x) (withdraw plan q.0) (λ S r. refl) (waiting_in S.queues q.0) (record S { control = control.set_mode S.control q.0 mode.Purged })
-  levels_of_by e x not_it (deed.CloseReturning d) S h = each (λ (S : State A). levels_of S.cpus x) close_returning (λ S q. refl) (managed_queues plan d.0) S
-  levels_of_by e x not_it (deed.CloseDevice d) S h = each (λ (S : State A). levels_of S.cpus x) close_queue (λ S q. refl) (queues_of plan d.0) (record S { control = control.shut S.control d.0 })
-  levels_of_by e x not_it _ S h = refl
+  plain_levels_of : (e x : ℕ) → x ≢ e → (d : Deed) (S : State A) → is_of_frame e d ≡ true → is_compound d ≡ false → levels_of S.cpus x ≡ levels_of (do_deed plan d S).cpus x
+  plain_levels_of e x n (deed.Raise f level) S h is = rw (differs f.0 e x h (λ same. n (sym same))) refl
+  plain_levels_of e x n (deed.Lower f level) S h is = ap (map (λ (l : HeldLevel). l.level.0)) (less_other f.0 level.0 x (differs f.0 e x h (λ same. n (sym same))) S.cpus.levels)
+  plain_levels_of e x n _ S h is = cc
+
+  -- the levels of a frame stay by a deed that raises and lowers another alone
+  levels_of_by : (e x : ℕ) → x ≢ e → (d : Deed) (S : State A) → is_of_frame e d ≡ true → levels_of S.cpus x ≡ levels_of (do_deed plan d S).cpus x
+  levels_of_by e x n d S h = stays plan (λ (U : State A). levels_of U.cpus x) (λ S T D W M Q P R K N. refl) d S (plain_levels_of e x n d S h)
 
   pub all_levels_of : (f x : ℕ) → x ≢ f → (ds : List Deed) (S : State A) → list_all (is_of_frame f) ds ≡ true → levels_of S.cpus x ≡ levels_of (do_deeds plan ds S).cpus x
   all_levels_of f x n [] S h = refl

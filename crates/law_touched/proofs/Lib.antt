@@ -13,4 +13,5 @@ pub mod Ranks
 pub mod Runs
 pub mod Same
 pub mod Starts
+pub mod Totals
 pub mod Waits

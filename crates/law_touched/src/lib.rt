@@ -3,7 +3,7 @@
 //! each event changes. A Local or a Log touches the own event of its processor alone.
 #![tactic(auto)]
 
-ghost use Rattle.std.specs.Prelude.{◌≡◌, ℕ, true, false, List, [], ◌∷◌, ◌++◌, Some, length, slice_get};
+ghost use Rattle.std.specs.Prelude.{◌≡◌, ◌<◌, ◌+◌, ℕ, true, false, List, [], ◌∷◌, ◌++◌, Some, length, slice_get};
 ghost use Rattle.std.specs.List.{flat_map, sum_by};
 ghost use Rattle.wdf_base.specs.Meaning.{Meaning};
 ghost use Rattle.wdf_base.specs.declared.plan.Plan.{Plan};
@@ -13,6 +13,7 @@ ghost use Rattle.wdf_base.specs.declared.event.Event.TheVariants as event;
 ghost use Rattle.wdf_base.specs.declared.value.Value.{Value};
 ghost use Rattle.wdf_model.specs.State.{State};
 ghost use Rattle.wdf_model.specs.declared.enums.Group.{Group};
+ghost use Rattle.wdf_model.specs.declared.enums.Group.TheVariants as group;
 ghost use Rattle.wdf_model.specs.rules.Groups.{groups};
 ghost use Rattle.wdf_model.specs.rules.Ready.{IsRunOf, allowed, ready, state_after};
 ghost use Rattle.wdf_model.specs.rules.Steps.{after, may};
@@ -72,13 +73,31 @@ pub fn log_keeps_the_other_counts<A>()
         → length (offers plan m (state_after plan m run) g) ≡ length (offers plan m (state_after plan m (run ++ event.Log cpu v ∷ [])) g) }
 {}
 
+/// So the number of events that may come, time aside, changes by that of the own event alone.
+#[tactic(auto, using(crate::proofs::Runs::local_total))]
+pub fn local_changes_the_count_by_its_own<A>()
+    ensures { (plan : Plan) (m : Meaning A) (run : List Event) (k : ℕ) (cpu : Cpu) (line : ℕ) → IsRunOf plan m run
+        → slice_get (ready plan m run) k ≡ Some (event.Local cpu line) → cpu.0 < plan.cpus
+        → length (allowed plan m (state_after plan m run)) + length (offers plan m (state_after plan m (run ++ event.Local cpu line ∷ [])) (group.OwnEvent cpu.0))
+        ≡ length (allowed plan m (state_after plan m (run ++ event.Local cpu line ∷ []))) + length (offers plan m (state_after plan m run) (group.OwnEvent cpu.0)) }
+{}
+
+/// The same of a Log.
+#[tactic(auto, using(crate::proofs::Runs::log_total))]
+pub fn log_changes_the_count_by_its_own<A>()
+    ensures { (plan : Plan) (m : Meaning A) (run : List Event) (k : ℕ) (cpu : Cpu) (v : Value) → IsRunOf plan m run
+        → slice_get (ready plan m run) k ≡ Some (event.Log cpu v) → cpu.0 < plan.cpus
+        → length (allowed plan m (state_after plan m run)) + length (offers plan m (state_after plan m (run ++ event.Log cpu v ∷ [])) (group.OwnEvent cpu.0))
+        ≡ length (allowed plan m (state_after plan m (run ++ event.Log cpu v ∷ []))) + length (offers plan m (state_after plan m run) (group.OwnEvent cpu.0)) }
+{}
+
 /// What may come, time aside, is what the groups offer, one after the other.
 #[tactic(auto, using(crate::proofs::Law::allowed_by_groups))]
 pub fn what_may_come_is_offered<A>()
     ensures { (plan : Plan) (m : Meaning A) (S : State A) → allowed plan m S ≡ flat_map (offers plan m S) (groups plan) }
 {}
 
-/// So as many events may come as all groups offer together.
+/// As many events may come as all groups offer together.
 #[tactic(auto, using(crate::proofs::Law::allowed_count))]
 pub fn counts_add_up<A>()
     ensures { (plan : Plan) (m : Meaning A) (S : State A) → length (allowed plan m S) ≡ sum_by (λ g. length (offers plan m S g)) (groups plan) }
