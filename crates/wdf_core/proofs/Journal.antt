@@ -13,7 +13,7 @@ use Rattle.wdf_base.specs.declared.plan.Plan.{Plan}
 use Rattle.wdf_base.specs.declared.wait.WaitLine.{WaitLine}
 use Rattle.wdf_model.specs.declared.enums.Group.{Group}
 use Rattle.wdf_model.specs.Tables.{entry}
-use Rattle.wdf_model.specs.State.{State}
+use Rattle.wdf_model.specs.State.{State, opening}
 use Rattle.wdf_model.specs.rules.Groups.{groups}
 use Rattle.wdf_model.specs.rules.Ready.{allowed, ending_by, ending_of, ending_without_fault, final_ending, last_fault, or_tick, ready, state_after, unless_fault, waits_for_time}
 use Rattle.wdf_model.specs.rules.Steps.{after, deeds, may}
@@ -418,6 +418,11 @@ none_first [] h = refl
 none_first (x ∷ xs) h = absurd (let z : ⊥ = cc in z)
 
 -- ---- the opening
+
+-- it is the state of no events
+pub opening_state : {A : Type 0} (m : Meaning A) (plan : Plan) (S : State A) → S ≡ opening plan m → S ≡ state_after plan m []
+unfolding state_after
+opening_state m plan S e = e
 
 pub opens : {A : Type 0} (m : Meaning A) (plan : Plan) (S : State A) (all : List Group) (space : ℕ) → IsResolved plan → S ≡ state_after plan m [] → all ≡ filter (has_places plan) (groups plan) → plan.limit ≤ space → IsUnderWay m plan [] S all space
 unfolding state_after

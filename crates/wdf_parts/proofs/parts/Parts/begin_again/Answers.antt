@@ -10,46 +10,46 @@ use Rattle.wdf_parts.proofs.parts.Parts.begin_again.Goals as goal
 pub begin_again-requires : goal.begin_again-requires
 begin_again-requires g c = let many = ap (λ (P : Plan). length P.declared) c.plan-plan.ensures in omega (arith, c.requires.objects)
 
-pub begin_again-2-requires : goal.begin_again-2-requires
-begin_again-2-requires g c = ap (λ (S : State _). length S.cpus.stacks) c.self.view_is ∙ c.requires.sized.stacks ∙ sym (ap (λ (P : Plan). P.cpus) c.plan-plan.ensures)
+pub begin_again-requires-2 : goal.begin_again-requires-2
+begin_again-requires-2 g c = ap (λ (S : State _). length S.cpus.stacks) c.self.view_is ∙ c.requires.sized.stacks ∙ sym (ap (λ (P : Plan). P.cpus) c.plan-plan.ensures)
 
-pub begin_again-5-requires : goal.begin_again-5-requires
-begin_again-5-requires g c =
+pub begin_again-requires-5 : goal.begin_again-requires-5
+begin_again-requires-5 g c =
     let many = ap (λ (P : Plan). length P.declared) c.plan-plan.ensures in
     let long = ap (λ (S : State _). length S.queues.dispatch) c.self.view_is in
     omega (arith, c.requires.sized.dispatch)
 
-pub begin_again-6-requires : goal.begin_again-6-requires
-begin_again-6-requires g c =
+pub begin_again-requires-6 : goal.begin_again-requires-6
+begin_again-requires-6 g c =
     let many = ap (λ (P : Plan). length P.declared) c.plan-plan.ensures in
     let long = ap (λ (S : State _). length S.control.controls) c.self.view_is in
     omega (arith, c.requires.sized.controls)
 
-pub begin_again-7-requires : goal.begin_again-7-requires
-begin_again-7-requires g c =
+pub begin_again-requires-7 : goal.begin_again-requires-7
+begin_again-requires-7 g c =
     let many = ap (λ (P : Plan). length P.declared) c.plan-plan.ensures in
     let long = ap (λ (S : State _). length S.power.devices) c.self.view_is in
     omega (arith, c.requires.sized.powers)
 
-pub begin_again-8-requires-clause-ids : goal.begin_again-8-requires-clause-ids
-begin_again-8-requires-clause-ids g c =
+pub begin_again-requires-8-clause-ids : goal.begin_again-requires-8-clause-ids
+begin_again-requires-8-clause-ids g c =
     let many = ap (λ (P : Plan). length P.declared) c.plan-plan.ensures in
     let long = ap (λ (S : State _). length S.pnp.devices) c.self.view_is in
     omega (arith, c.requires.sized.sequences)
 
-pub begin_again-8-requires-clause-steps : goal.begin_again-8-requires-clause-steps
-begin_again-8-requires-clause-steps g c = λ d.
+pub begin_again-requires-8-clause-steps : goal.begin_again-requires-8-clause-steps
+begin_again-requires-8-clause-steps g c = λ d.
     ap (λ (S : State _). (sequence_of S.pnp d).steps) c.self.view_is ∙ c.requires.sized.steps d ∙ sym (ap (λ (P : Plan). (opening_sequence P d (device_of P d)).steps) c.plan-plan.ensures)
 
-pub begin_again-10-requires : goal.begin_again-10-requires
-begin_again-10-requires g c = ap (λ (S : State _). length S.dpcs.lists) c.self.view_is ∙ c.requires.sized.dpcs ∙ sym (ap (λ (P : Plan). P.cpus) c.plan-plan.ensures)
+pub begin_again-requires-10 : goal.begin_again-requires-10
+begin_again-requires-10 g c = ap (λ (S : State _). length S.dpcs.lists) c.self.view_is ∙ c.requires.sized.dpcs ∙ sym (ap (λ (P : Plan). P.cpus) c.plan-plan.ensures)
 
-pub begin_again-13-requires-clause-ids : goal.begin_again-13-requires-clause-ids
-begin_again-13-requires-clause-ids g c =
+pub begin_again-requires-13-clause-ids : goal.begin_again-requires-13-clause-ids
+begin_again-requires-13-clause-ids g c =
     let many = ap (λ (P : Plan). length P.declared) c.plan-plan.ensures in
     let long = ap (λ (S : State _). length S.targets.targets) c.self.view_is in
     omega (arith, c.requires.sized.targets)
 
-pub begin_again-13-requires-clause-depths : goal.begin_again-13-requires-clause-depths
-begin_again-13-requires-clause-depths g c = λ t.
+pub begin_again-requires-13-clause-depths : goal.begin_again-requires-13-clause-depths
+begin_again-requires-13-clause-depths g c = λ t.
     ap (λ (S : State _). (the_target S.targets t).depth) c.self.view_is ∙ c.requires.sized.depths t ∙ sym (ap (λ (P : Plan). (the_target (opening_targets P) t).depth) c.plan-plan.ensures)
