@@ -61,7 +61,7 @@ module _ {A : Type 0} {plan : Plan} {S : State A} (k : Fine plan S) where
       record { dispatch = omega arith; control = omega arith }
 
   pub target_there : (t : ℕ) → t < table_size plan → t < length S.targets.targets
-  target_there t h = let size = k.room.sizes.targets in omega arith
+  target_there t h = let size = k.room.sizes.targets.many in omega arith
 
   -- ---- objects are made
 

@@ -1,14 +1,14 @@
 -- How long the tables are after each deed that can be done: as long as before.
-use Rattle.std.proofs.Common.{if◌then◌else◌, ◌≡◌, ℕ, ◌+◌, ◌<◌, Bool, true, false, List, [], length, drop, Option, Some, None, unwrap_or, refl, ap, ◌∙◌, arith, inl, inr, ◌-◌, ◌≤◌}
+use Rattle.std.proofs.Common.{if◌then◌else◌, ◌≡◌, ℕ, ◌+◌, ◌<◌, Bool, true, false, List, [], length, drop, Option, Some, None, unwrap_or, map, refl, sym, ap, ◌∙◌, arith, ◌⊎◌, inl, inr, ◌-◌, ◌≤◌}
 use Rattle.std.proofs.lemmas.List.{length-map}
-use Rattle.std.proofs.lemmas.Bool.{cases_lt}
+use Rattle.std.proofs.lemmas.Bool.{cases_eq, cases_lt}
 use Rattle.wdf_base.specs.declared.plan.Plan.{Plan}
 use Rattle.wdf_base.specs.declared.event.Stage.{Stage}
 use Rattle.wdf_base.specs.declared.event.Stage.TheVariants as stage
 use Rattle.wdf_base.specs.declared.event.Step.{Step}
 use Rattle.wdf_base.specs.declared.event.Step.TheVariants as step
 use Rattle.wdf_model.specs.declared.enums.Mode.{Mode}
-use Rattle.wdf_model.specs.Tables.{put, without}
+use Rattle.wdf_model.specs.Tables.{entry, put, without}
 use Rattle.wdf_model.specs.parts.Queues.{Queues, waiting_in, held_count, with_held, with_waiting}
 use Rattle.wdf_model.specs.parts.Queues as queues
 use Rattle.wdf_model.specs.parts.Control.{Control, control_of, is_closed, no_control, shut_control, with_control}
@@ -16,10 +16,11 @@ use Rattle.wdf_model.specs.parts.Control as control
 use Rattle.wdf_model.specs.declared.entries.QueueControl.{QueueControl}
 use Rattle.wdf_model.specs.parts.Power.{Power, device_power, holding_of, is_held, no_device_power}
 use Rattle.wdf_model.specs.parts.Power as power
-use Rattle.wdf_model.specs.parts.Targets.{Targets, no_target, takes_more, the_target}
+use Rattle.wdf_model.specs.parts.Targets.{Target, Targets, no_target, opening_targets, takes_more, the_target}
 use Rattle.wdf_model.specs.Plans.{is_managed}
 use Rattle.wdf_model.specs.rules.Deeds.{hold_power, release_line, release_power}
-use Rattle.wdf_model.proofs.Maps.{as_long, entry_past, put_within}
+use Rattle.wdf_model.proofs.Maps.{as_long, entry_map, entry_past, entry_put_other, entry_put_same, put_within}
+use Rattle.law_machine_room.specs.Kept.{TargetsKept, table_size}
 
 -- a write within a map keeps its length
 pub as_many : {T : Type 0} (blank : T) (xs : List T) (id : ℕ) (new : T) (n : ℕ) → id < n → length xs ≡ n → length (put blank xs id new) ≡ n
@@ -93,6 +94,28 @@ advanced_sized n P d (step.Run c i) h k = k
 advanced_sized n P d (step.Pass s i) h k = stage_sized n P d s h k
 
 -- ---- targets
+
+-- a target is written, with its depth
+pub target_kept : (plan : Plan) (T : Targets) (t : ℕ) (new : Target) → t < table_size plan → new.depth ≡ (the_target T t).depth → TargetsKept plan T
+    → TargetsKept plan (record { targets = put no_target T.targets t new })
+target_kept plan T t new h same k = record {
+  many = as_many no_target T.targets t new (table_size plan) h k.many;
+  depths = λ x. at x (cases_eq x t);
+}
+  where
+    at : (x : ℕ) → (x ≡ t) ⊎ (x ≡ t → ⊥) → (entry no_target (put no_target T.targets t new) x).depth ≡ (the_target (opening_targets plan) x).depth
+    at x (inl e) =
+        ap (λ y. (entry no_target (put no_target T.targets t new) y).depth) e ∙ ap (λ (y : Target). y.depth) (entry_put_same no_target T.targets t new) ∙ same
+        ∙ ap (λ y. (the_target T y).depth) (sym e) ∙ k.depths x
+    at x (inr other) = ap (λ (y : Target). y.depth) (entry_put_other no_target T.targets t x new other) ∙ k.depths x
+
+-- each target changes, but for its depth
+pub targets_kept : (plan : Plan) (T : Targets) (f : Target → Target) → f no_target ≡ no_target → ((x : Target) → (f x).depth ≡ x.depth) → TargetsKept plan T
+    → TargetsKept plan (record { targets = map f T.targets })
+targets_kept plan T f none same k = record {
+  many = length-map T.targets f ∙ k.many;
+  depths = λ t. ap (λ (y : Target). y.depth) (entry_map no_target T.targets f t none) ∙ same (the_target T t) ∙ k.depths t;
+}
 
 -- a target that takes a request is there
 within_by : (T : Targets) (t : ℕ) → takes_more T t ≡ true → length T.targets ≤ t → ⊥

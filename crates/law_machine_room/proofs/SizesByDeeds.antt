@@ -20,15 +20,15 @@ use Rattle.wdf_model.specs.parts.Control as control
 use Rattle.wdf_model.specs.parts.Power.{Power}
 use Rattle.wdf_model.specs.parts.Deferred.Dpcs.{dpcs_of}
 use Rattle.wdf_model.specs.parts.Pnp.{left_after, no_sequence, sequence_of, steps_for, taken_step}
-use Rattle.wdf_model.specs.parts.Targets.{new_sending, no_target, sending_in_order, target_done, the_target, without_sending}
+use Rattle.wdf_model.specs.parts.Targets.{new_sending, sending_in_order, target_done, the_target, without_sending}
 use Rattle.wdf_model.specs.State.{State, is_with_driver}
 use Rattle.wdf_model.specs.declared.deed.Deed.{Deed}
 use Rattle.wdf_model.specs.declared.deed.Deed.TheVariants.{Arrive, AskDeletion, PushFrame, PopFrame, ParkFrame, UnparkFrame, Present, Receive, Requeue, Forward, GiveBack, Withdraw, SendRequest, FinishSending, ComeBack, CompleteRequest, SetMode, PurgeQueue, CloseReturning, CloseDevice, RegisterQueue, NotifyQueue, AdvancePower, AskDevice, TakeStep, EndStep, EnqueueDpc, CancelDpc, TakeDpc, StopTarget, StartTarget}
 use Rattle.wdf_model.specs.rules.Deeds.{arrive_at, ask_object, close_queue, close_returning, do_deed, do_deeds, give_up, give_up_if, release_line, release_power, withdraw}
 use Rattle.law_machine_base.proofs.Deletion.{object_live, object_off}
 use Rattle.wdf_model.specs.rules.Room.{AreDoable, IsDoable, MayEnterIfQueued, MayGiveUp}
-use Rattle.law_machine_room.specs.Kept.{SizesKept, table_size}
-use Rattle.law_machine_room.proofs.Sizes.{QueuesSized, advanced_sized, as_many, cancelled_sized, control_sized, held_sized, hold_stays, mode_sized, release_stays, released_sized, shut_sized, taken_sized, takes_within, waiting_sized}
+use Rattle.law_machine_room.specs.Kept.{SizesKept, TargetsKept, table_size}
+use Rattle.law_machine_room.proofs.Sizes.{QueuesSized, advanced_sized, as_many, cancelled_sized, control_sized, held_sized, hold_stays, mode_sized, release_stays, released_sized, shut_sized, taken_sized, takes_within, target_kept, targets_kept, waiting_sized}
 use Rattle.law_machine_room.proofs.SizesOfPlans.{queues_below}
 
 queues_sized : {A : Type 0} {plan : Plan} {S : State A} → SizesKept plan S → QueuesSized (table_size plan) S.queues
@@ -36,7 +36,7 @@ queues_sized k = record { dispatch = k.dispatch; waiting = k.waiting; held = k.h
 
 -- the sizes, by the parts
 sized : {A : Type 0} (plan : Plan) (S : State A) → QueuesSized (table_size plan) S.queues → length S.control.controls ≡ table_size plan
-    → length S.power.devices ≡ table_size plan → length S.pnp.devices ≡ table_size plan → length S.targets.targets ≡ table_size plan
+    → length S.power.devices ≡ table_size plan → length S.pnp.devices ≡ table_size plan → TargetsKept plan S.targets
     → length S.cpus.stacks ≡ plan.cpus → length S.dpcs.lists ≡ plan.cpus → length S.agents ≡ agent_count plan → SizesKept plan S
 sized plan S lines controls powers sequences targets stacks lists agents = record {
   dispatch = lines.dispatch;
@@ -142,13 +142,14 @@ deed_sizes plan (Withdraw q r) S d k = withdrawn plan q.0 S r.0 k
 deed_sizes plan (SendRequest r t forget) S d k =
     let g = given_up_if plan S forget r.0 d.0 k in
     let there = takes_within S.targets t.0 d.1 in
+    let many = k.targets.many in
     sized plan _ (queues_sized g) g.controls g.powers g.sequences
-    (as_many no_target S.targets.targets t.0 (record (the_target S.targets t.0) { sent = sending_in_order (new_sending r.0 forget) (the_target S.targets t.0).sent }) (table_size plan) (omega arith) k.targets)
+    (target_kept plan S.targets t.0 (record (the_target S.targets t.0) { sent = sending_in_order (new_sending r.0 forget) (the_target S.targets t.0).sent }) (omega arith) refl k.targets)
     g.stacks g.dpcs g.agents
 deed_sizes plan (FinishSending r s) S d k =
-    sized plan _ (queues_sized k) k.controls k.powers k.sequences (length-map S.targets.targets (target_done r.0 s) ∙ k.targets) k.stacks k.dpcs k.agents
+    sized plan _ (queues_sized k) k.controls k.powers k.sequences (targets_kept plan S.targets (target_done r.0 s) refl (λ x. refl) k.targets) k.stacks k.dpcs k.agents
 deed_sizes plan (ComeBack r) S d k =
-    sized plan _ (queues_sized k) k.controls k.powers k.sequences (length-map S.targets.targets (without_sending r.0) ∙ k.targets) k.stacks k.dpcs k.agents
+    sized plan _ (queues_sized k) k.controls k.powers k.sequences (targets_kept plan S.targets (without_sending r.0) refl (λ x. refl) k.targets) k.stacks k.dpcs k.agents
 deed_sizes plan (CompleteRequest r) S d k =
     let g = given_up plan S r.0 d k in
     all_asked plan (subtree (give_up S r.0).tree r.0) (record (give_up S r.0) { requests = requests.complete S.requests r.0 })
@@ -187,9 +188,11 @@ deed_sizes plan (CancelDpc o) S d k =
 deed_sizes plan (TakeDpc cpu) S d k =
     sized plan _ (queues_sized k) k.controls k.powers k.sequences k.targets k.stacks (as_many [] S.dpcs.lists cpu.0 (drop 1 (dpcs_of S.dpcs cpu.0)) plan.cpus (omega arith) k.dpcs) k.agents
 deed_sizes plan (StopTarget t) S d k =
-    sized plan _ (queues_sized k) k.controls k.powers k.sequences (as_many no_target S.targets.targets t.0 (record (the_target S.targets t.0) { stopped = true }) (table_size plan) (omega arith) k.targets) k.stacks k.dpcs k.agents
+    let many = k.targets.many in
+    sized plan _ (queues_sized k) k.controls k.powers k.sequences (target_kept plan S.targets t.0 (record (the_target S.targets t.0) { stopped = true }) (omega arith) refl k.targets) k.stacks k.dpcs k.agents
 deed_sizes plan (StartTarget t) S d k =
-    sized plan _ (queues_sized k) k.controls k.powers k.sequences (as_many no_target S.targets.targets t.0 (record (the_target S.targets t.0) { stopped = false }) (table_size plan) (omega arith) k.targets) k.stacks k.dpcs k.agents
+    let many = k.targets.many in
+    sized plan _ (queues_sized k) k.controls k.powers k.sequences (target_kept plan S.targets t.0 (record (the_target S.targets t.0) { stopped = false }) (omega arith) refl k.targets) k.stacks k.dpcs k.agents
 deed_sizes plan _ S d k = sized plan _ (queues_sized k) k.controls k.powers k.sequences k.targets k.stacks k.dpcs k.agents
 
 pub deeds_sizes : {A : Type 0} (plan : Plan) (ds : List Deed) (S : State A) → AreDoable plan ds S → SizesKept plan S → SizesKept plan (do_deeds plan ds S)

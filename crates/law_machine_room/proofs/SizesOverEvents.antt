@@ -27,7 +27,7 @@ sizes_open plan m = record {
   controls = length-map-range_with_len (λ q. opening_mode (queue_of plan q)) 0 (table_size plan);
   powers = length-map-range_with_len (λ d. opening_device_power (device_of plan d)) 0 (table_size plan);
   sequences = length-map-range_with_len (λ d. opening_sequence plan d (device_of plan d)) 0 (table_size plan);
-  targets = length-map-range_with_len (λ t. opening_target (target_of plan t)) 0 (table_size plan);
+  targets = record { many = length-map-range_with_len (λ t. opening_target (target_of plan t)) 0 (table_size plan); depths = λ t. refl };
   stacks = length-replicate {A = List ℕ} plan.cpus [];
   dpcs = length-replicate {A = List ℕ} plan.cpus [];
   agents = length-map-range_with_len (m.begin plan) 0 (agent_count plan);

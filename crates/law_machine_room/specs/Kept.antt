@@ -12,11 +12,17 @@ use Rattle.wdf_model.specs.parts.Cpus.{all_frames}
 use Rattle.wdf_model.specs.parts.Requests.{is_in, origin_of, place_of}
 use Rattle.wdf_model.specs.parts.Queues.{held_in}
 use Rattle.wdf_model.specs.parts.Pnp.{opening_sequence, sequence_of, steps_left}
+use Rattle.wdf_model.specs.parts.Targets.{Targets, opening_targets, the_target}
 use Rattle.wdf_model.specs.State.{State}
 
 -- how many ids the tables by declared object have: the id 0, the driver object and what is declared
 abbrev pub table_size : Plan → ℕ
 table_size plan = suc (length plan.declared)
+
+-- The table of targets keeps its size, and each target its depth.
+pub record TargetsKept (plan : Plan) (T : Targets) : Type 0 where
+  pub many : length T.targets ≡ table_size plan
+  pub depths : (t : ℕ) → (the_target T t).depth ≡ (the_target (opening_targets plan) t).depth
 
 -- The tables by declared object, by processor and by agent keep their sizes.
 pub record SizesKept {A : Type 0} (plan : Plan) (S : State A) : Type 0 where
@@ -26,7 +32,7 @@ pub record SizesKept {A : Type 0} (plan : Plan) (S : State A) : Type 0 where
   pub controls : length S.control.controls ≡ table_size plan
   pub powers : length S.power.devices ≡ table_size plan
   pub sequences : length S.pnp.devices ≡ table_size plan
-  pub targets : length S.targets.targets ≡ table_size plan
+  pub targets : TargetsKept plan S.targets
   pub stacks : length S.cpus.stacks ≡ plan.cpus
   pub dpcs : length S.dpcs.lists ≡ plan.cpus
   pub agents : length S.agents ≡ agent_count plan

@@ -19,7 +19,6 @@ ghost use Rattle.wdf_model.specs.rules.Ready.{IsRunOf};
 
 /// In every run of a resolved plan, the callbacks of an interrupt that take its lock begin alone. When one begins, none
 /// of them has begun and not ended. Where the interrupt is passive, the processor is empty, too.
-#[tactic(auto, using(crate::proofs::Alone::alone_at_each))]
 pub fn runs_serve_alone<A>()
     ensures { (plan : Plan) (m : Meaning A) (run : List Event) (k : ℕ) (cpu : Cpu) (c : Callback) (o : Handle) (r : Option Handle) (x : InterruptInfo) → IsResolved plan
         → IsRunOf plan m run → slice_get run k ≡ Some (event.Start cpu c o r) → interrupt_of plan o.id.0 ≡ Some x

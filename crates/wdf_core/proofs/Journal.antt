@@ -13,7 +13,7 @@ use Rattle.wdf_base.specs.declared.plan.Plan.{Plan}
 use Rattle.wdf_base.specs.declared.wait.WaitLine.{WaitLine}
 use Rattle.wdf_model.specs.declared.enums.Group.{Group}
 use Rattle.wdf_model.specs.Tables.{entry}
-use Rattle.wdf_model.specs.State.{State}
+use Rattle.wdf_model.specs.State.{State, opening}
 use Rattle.wdf_model.specs.rules.Groups.{groups}
 use Rattle.wdf_model.specs.rules.Ready.{allowed, ending_by, ending_of, ending_without_fault, final_ending, last_fault, or_tick, ready, state_after, unless_fault, waits_for_time}
 use Rattle.wdf_model.specs.rules.Steps.{after, deeds, may}
@@ -24,6 +24,7 @@ use Rattle.wdf_model.specs.rules.Room.{AreDoable}
 use Rattle.law_machine_room.proofs.Doable.{Fine, agents_few}
 use Rattle.law_machine_room.proofs.DoableRuns.{fine_after}
 use Rattle.law_machine_room.proofs.RoomLaws.{each_event_is_doable, room_is_kept}
+use Rattle.wdf_parts.specs.Again.{IsSized}
 use Rattle.wdf_steps.proofs.Parts.{number_kept}
 use Rattle.wdf_ready.specs.Search.{events_of, has_places}
 use Rattle.wdf_ready.proofs.Grouping.{few_groups}
@@ -95,6 +96,22 @@ module _ {A : Type 0} (m : Meaning A) (plan : Plan) (journal : List Event) (S : 
   -- the room of the state at hand
   pub room_now : RoomKept plan (state_after plan m journal)
   room_now = subst (λ (es : List Event). RoomKept plan (state_after plan m es)) (take_all journal) (room_is_kept plan m journal u.resolved u.run (length journal))
+
+  -- it can begin anew
+  pub sized : IsSized plan S
+  sized =
+      let kept = room_now in
+      subst (λ (T : State A). IsSized plan T) (sym u.state) (record {
+        dispatch = omega (arith, kept.sizes.dispatch);
+        controls = omega (arith, kept.sizes.controls);
+        powers = omega (arith, kept.sizes.powers);
+        sequences = omega (arith, kept.sizes.sequences);
+        steps = kept.names.made_of;
+        targets = omega (arith, kept.sizes.targets.many);
+        depths = kept.sizes.targets.depths;
+        stacks = kept.sizes.stacks;
+        dpcs = kept.sizes.dpcs;
+      })
 
   below_by : (f : Option Fault) (b : Bool) → nat_lt (length journal) plan.limit ≡ b → (is_none f && nat_lt (length journal) plan.limit) ≡ true → length journal < plan.limit
   below_by None true e h = ltb-true (length journal) plan.limit e
@@ -401,6 +418,11 @@ none_first [] h = refl
 none_first (x ∷ xs) h = absurd (let z : ⊥ = cc in z)
 
 -- ---- the opening
+
+-- it is the state of no events
+pub opening_state : {A : Type 0} (m : Meaning A) (plan : Plan) (S : State A) → S ≡ opening plan m → S ≡ state_after plan m []
+unfolding state_after
+opening_state m plan S e = e
 
 pub opens : {A : Type 0} (m : Meaning A) (plan : Plan) (S : State A) (all : List Group) (space : ℕ) → IsResolved plan → S ≡ state_after plan m [] → all ≡ filter (has_places plan) (groups plan) → plan.limit ≤ space → IsUnderWay m plan [] S all space
 unfolding state_after

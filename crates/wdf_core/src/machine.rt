@@ -106,6 +106,17 @@ impl<A: Agent> Core<A> {
         Ok(Core::begun(plan, parts, groups, journal, counts))
     }
 
+    /// The opening of the plan's run once more, with these agents; those that it had are dropped. It takes no memory, and
+    /// touches only what the run so far did, and the tables by declared object.
+    pub fn begin_again(&mut self, agents: Vec<A>)
+        requires { agents.items ≡ opening_agents self.old.plan A.meaning }
+        ensures plan { self.new.plan ≡ self.old.plan }
+        ensures journal { self.new.journal ≡ [] }
+    {
+        self.parts.begin_again(&self.plan, agents);
+        self.journal.clear();
+    }
+
     /// The core of an opening.
     fn begun(
         plan: IndexedPlan,
@@ -525,6 +536,28 @@ impl<A: Agent> Core<A> {
         ensures { result.now ≡ self.now.plan }
     {
         self.plan.plan()
+    }
+
+    /// The state after the events.
+    pub fn parts(&self) -> &Parts<A>
+        ensures { result.now ≡ state_after self.now.plan A.meaning self.now.journal }
+    {
+        let _ = &self.plan;
+        &self.parts
+    }
+
+    /// The plan of the run with its tables.
+    pub fn indexed(&self) -> &IndexedPlan
+        ensures { result.now ≡ self.now.plan }
+    {
+        &self.plan
+    }
+
+    /// The events.
+    pub fn journal(&self) -> &[Event]
+        ensures { result.now ≡ self.now.journal }
+    {
+        self.journal.as_slice()
     }
 
     /// How many events there were. They are a run.

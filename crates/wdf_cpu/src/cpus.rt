@@ -1,4 +1,4 @@
-ghost use Rattle.std.specs.Prelude.{◌≡◌, [], length, replicate, IfOk};
+ghost use Rattle.std.specs.Prelude.{◌≡◌, [], length, map, replicate, IfOk};
 ghost use Rattle.std.specs.Option.{option_map};
 ghost use Rattle.wdf_model.specs.parts.Cpus.{opening_cpus, no_frame};
 ghost use Rattle.wdf_cpu.specs.Keys.{object_key, wait_key};
@@ -94,6 +94,39 @@ impl Cpus {
             untils: Untils::make(alloc)?,
             blank: NO_FRAME.frame,
         })
+    }
+
+    /// The processors at the opening of a plan's run once more, where it has as many: each is empty.
+    pub fn begin_again(&mut self, plan: &Plan)
+        requires { length self.old.stacks ≡ plan.now.cpus }
+        ensures { self.new ≡ opening_cpus plan.now }
+    {
+        let _ = plan;
+        self.frames.clear();
+        clear_stacks(&mut self.stacks);
+        self.parked.clear();
+        self.levels.clear();
+        self.live.clear();
+        self.peaks.clear();
+        self.on.clear();
+        self.waits.clear();
+        self.untils.clear();
+    }
+}
+
+/// Each processor is empty again.
+fn clear_stacks(stacks: &mut Vec<Stack>)
+    ensures { stacks.new.items ≡ map (λ _. []) stacks.old.items }
+{
+    clear_each(stacks.as_mut_slice());
+}
+
+/// Each of these processors is empty again.
+fn clear_each(stacks: &mut [Stack])
+    ensures { stacks.new ≡ map (λ _. []) stacks.old }
+{
+    for stack in stacks.iter_mut() {
+        stack.clear();
     }
 }
 

@@ -46,6 +46,14 @@ impl Levels {
         })
     }
 
+    /// No level is held any more.
+    pub(crate) fn clear(&mut self)
+        ensures { self.new ≡ [] }
+    {
+        self.held.clear();
+        self.counts.clear();
+    }
+
     /// How many levels are held.
     pub(crate) fn len(&self) -> usize
         ensures { result ≡ length self.now }

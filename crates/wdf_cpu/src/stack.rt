@@ -35,6 +35,13 @@ impl Stack {
         })
     }
 
+    /// The processor is empty again.
+    pub(crate) fn clear(&mut self)
+        ensures { self.new ≡ [] }
+    {
+        self.frames.clear();
+    }
+
     /// How many frames there are.
     pub(crate) fn len(&self) -> usize
         ensures { result ≡ length self.now }

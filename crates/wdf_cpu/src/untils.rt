@@ -40,6 +40,13 @@ impl Untils {
         })
     }
 
+    /// No frame spends any more.
+    pub(crate) fn clear(&mut self)
+        ensures { self.new ≡ [] }
+    {
+        self.ticks.clear();
+    }
+
     /// The greatest tick, 0 where there is none.
     pub(crate) fn latest(&self) -> u64
         ensures { (t : ℕ) → nat_lt t result ≡ not (count_by (nat_lt t) self.now == 0) }

@@ -1,4 +1,5 @@
 pub mod DpcLists
+pub mod FloorsKept
 pub mod LatestTick
 pub mod LeastTick
 pub mod QueuedWork

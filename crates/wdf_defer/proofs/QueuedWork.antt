@@ -6,7 +6,9 @@ use Rattle.std.proofs.lemmas.Bool.Decides.{nat_tests}
 use Rattle.wdf_model.specs.Tables.{contains, without, in_order}
 use Rattle.wdf_model.specs.parts.Deferred.WorkItems.{WorkItems, is_work_queued, enqueue, cancel}
 use Rattle.wdf_model.proofs.Maps.{entry_past}
-use Rattle.wdf_sets.specs.Members.{is_in, members}
+use Rattle.wdf_sets.specs.Members.{is_in, members, rank}
+use Rattle.wdf_sets.proofs.Ranks.{members_where, rank_first}
+use Rattle.wdf_defer.specs.WorkItems.{AreInOrder}
 
 -- ---- the numbers of a span that pass a test
 
@@ -173,3 +175,11 @@ kept_by x (y ∷ xs) h = let r : contains x xs ≡ false → without x xs ≡ xs
 
 pub not_cancelled : (W : WorkItems) (o : ℕ) → is_work_queued W o ≡ false → W ≡ cancel W o
 not_cancelled W o h = let Q : List ℕ → WorkItems = λ ids. record { queued = ids } in ap Q (sym (kept_by o W.queued h))
+
+-- ---- in order
+
+pub in_order_of : (bits : List Bool) → AreInOrder (record { queued = members bits })
+in_order_of bits = record { rising = λ end none. members_where bits (λ x. contains x (members bits)) end (λ x. is_member x bits) none }
+
+pub counted_below : (bits : List Bool) (id : ℕ) → rank id bits ≡ length (filter (λ x. contains x (members bits)) (range_with_len 0 id))
+counted_below bits id = rank_first bits (λ x. contains x (members bits)) (λ x. is_member x bits) id

@@ -1,4 +1,5 @@
 pub mod Dpcs
+pub mod Floors
 pub mod Ticks
 pub mod Timers
 pub mod WorkItems

@@ -1,5 +1,5 @@
 -- The due ticks of queued timers.
-use Rattle.std.specs.Prelude.{ℕ, ◌≡◌, Bool, false, max, min, nat_le, List, [], ◌∷◌, Option, Some, None}
+use Rattle.std.specs.Prelude.{ℕ, ◌≡◌, max, min, List, [], ◌∷◌, Option, Some, None}
 use Rattle.wdf_model.specs.declared.entries.Timed.{Timed}
 
 abbrev pub timer_id : Timed → ℕ
@@ -21,16 +21,6 @@ abbrev pub earliest_of : List Timed → Option ℕ
 earliest_of [] = None
 earliest_of (t ∷ ts) = earlier (Some t.tick) (earliest_of ts)
 
--- whether a tick is the least one
-abbrev pub is_earliest : Option ℕ → Option ℕ → Bool
-is_earliest (Some least) (Some tick) = nat_le tick least
-is_earliest _ _ = false
-
--- the due tick of a timer, where it is queued
-abbrev pub tick_if : Option Timed → Option ℕ
-tick_if None = None
-tick_if (Some t) = Some t.tick
-
 -- the due tick of a timer, 0 where it isn't queued
 abbrev pub due_tick : Option Timed → ℕ
 due_tick None = 0
@@ -42,9 +32,3 @@ pub record Replaces (before went came after : ℕ) : Type 0 where
   pub rest : ℕ
   pub was : before ≡ max went rest
   pub is : after ≡ max came rest
-
--- The same of the least: before and after it is the earlier of it and of the rest.
-pub record ReplacesFirst (before went came after : Option ℕ) : Type 0 where
-  pub rest : Option ℕ
-  pub was : before ≡ earlier went rest
-  pub is : after ≡ earlier came rest

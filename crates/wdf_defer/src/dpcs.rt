@@ -60,6 +60,15 @@ impl Dpcs {
         })
     }
 
+    /// The empty list of each processor once more, where the plan has as many.
+    pub fn begin_again(&mut self, plan: &Plan)
+        requires { length self.old.lists ≡ plan.now.cpus }
+        ensures { self.new ≡ dpcs.opening_dpcs plan.now }
+    {
+        let _ = plan;
+        self.queued.clear();
+    }
+
     /// How many DPCs are in a processor's list.
     pub fn len(&self, cpu: Cpu) -> u32
         ensures { result ≡ length (dpcs.dpcs_of self.now cpu.0) }

@@ -2,6 +2,7 @@
 #![tactic(auto)]
 
 mod dpcs;
+mod floors;
 mod timers;
 mod work_items;
 

@@ -1,9 +1,13 @@
-ghost use Rattle.std.specs.Prelude.{◌≡◌, ◌+◌, ◌<◌, ◌^◌, IfOk, IfSome, Some, length, map, slice_get, true};
+ghost use Rattle.std.specs.Prelude.{◌≡◌, ◌+◌, ◌/◌, ◌<◌, ◌^◌, IfOk, IfSome, MatchOption, Some, false, length, map, slice_get, true};
 ghost use Rattle.wdf_model.specs.parts.Deferred.Timers as timers;
 ghost use Rattle.wdf_model.specs.Tables as tables;
 ghost use Rattle.wdf_maps.specs.Places.{rises, with_entry};
-ghost use Rattle.wdf_defer.specs.Ticks.{Replaces, ReplacesFirst, due_tick, earlier, earliest_of, is_earliest, latest_of, tick_if, timer_id};
+ghost use Rattle.wdf_sets.specs.Nexts.{IsNext, NoneFrom};
+ghost use Rattle.wdf_defer.specs.Floors.{IsFloor, are_floors};
+ghost use Rattle.wdf_defer.specs.Ticks.{Replaces, due_tick, earlier, earliest_of, latest_of, timer_id};
+ghost use Rattle.wdf_defer.specs.Timers.{AreApart, is_due_at};
 
+use crate::floors::{BLOCK, Floors, NEVER};
 use std::alloc::Global;
 use std::marker::Model;
 use wdf_base::{Memory, ObjectId, Plan};
@@ -19,8 +23,8 @@ pub struct Timers {
     queued: Rising<Timed>,
     /// The greatest due tick of the queued timers, 0 where there is none.
     latest: u64,
-    /// The least due tick of the queued timers, if there is one.
-    least: Option<u64>,
+    /// For each 64 ids a tick before which none of their timers is due.
+    floors: Floors,
 }
 
 impl Model for Timers {
@@ -69,13 +73,6 @@ fn tick_of(timed: Option<Timed>) -> u64
     }
 }
 
-/// The due tick of a timer, where it is queued.
-fn tick_if(timed: Option<Timed>) -> Option<u64>
-    ensures { result ≡ tick_if timed }
-{
-    timed.map(|timed| timed.tick)
-}
-
 /// The earlier of two ticks, as far as they are there.
 fn earlier(one: Option<u64>, other: Option<u64>) -> Option<u64>
     ensures { result ≡ earlier one other }
@@ -98,32 +95,19 @@ fn least_tick(queued: &[Timed]) -> Option<u64>
     least
 }
 
-/// Whether a due tick is the least one.
-fn is_earliest(least: Option<u64>, tick: Option<u64>) -> bool
-    ensures { result ≡ is_earliest least tick }
+/// The least due tick of the queued timers whose ids have a floor with this id.
+fn floor_in(queued: &Rising<Timed>, id: ObjectId) -> u64
+    requires rising { rises timer_id 0 OBJECTS queued.now.entries ≡ true }
+    requires object { id.0 < OBJECTS }
+    ensures { IsFloor queued.now.entries (id.0 / 64) result }
 {
-    match (least, tick) {
-        (Some(least), Some(tick)) => tick <= least,
-        _ => false,
+    let start = id.0 / BLOCK * BLOCK;
+    let end = queued.before(start + BLOCK);
+    let mut floor = NEVER;
+    for place in queued.before(start)..end {
+        floor = floor.min(queued.at(place).tick);
     }
-}
-
-/// The least due tick, where it was `least` before one due tick went and another one came. The timers
-/// are looked at only where the one that went was the least.
-fn least_after(
-    queued: &[Timed],
-    least: Option<u64>,
-    went: Option<u64>,
-    came: Option<u64>,
-) -> Option<u64>
-    requires { ReplacesFirst least went came (earliest_of queued.now) }
-    ensures { result ≡ earliest_of queued.now }
-{
-    if is_earliest(least, went) {
-        least_tick(queued)
-    } else {
-        earlier(least, came)
-    }
+    floor
 }
 
 impl Timers {
@@ -134,8 +118,17 @@ impl Timers {
         Ok(Timers {
             queued: Rising::make(alloc, OBJECTS)?,
             latest: 0,
-            least: None,
+            floors: Floors::make(alloc)?,
         })
+    }
+
+    /// No timer is queued once more.
+    pub fn begin_again(&mut self)
+        ensures { self.new ≡ timers.no_timers }
+    {
+        self.queued.clear();
+        self.latest = 0;
+        self.floors.clear();
     }
 
     /// How many timers are queued.
@@ -167,11 +160,42 @@ impl Timers {
         self.timed_of(o).is_some_and(|timed| timed.tick <= now)
     }
 
-    /// The least due tick, `None` exactly where no timer is queued.
+    /// The least due tick, `None` exactly where no timer is queued. It goes over them.
     pub fn next_timer(&self) -> Option<u64>
         ensures { result ≡ timers.next_timer self.now }
     {
-        self.least
+        least_tick(self.queued.as_slice())
+    }
+
+    /// The first place from one on, by rising id, of a queued timer whose due tick is reached. Timers of 64 ids are passed
+    /// over at once where none of them is due.
+    pub fn next_due(&self, from: u32, now: u64) -> Option<u32>
+        ensures next { MatchOption result (NoneFrom (is_due_at self.now now) from (length self.now.queued)) (λ place. IsNext (is_due_at self.now now) from (length self.now.queued) place) }
+        ensures apart { AreApart self.now }
+    {
+        let mut at = from;
+        'search: while at < self.queued.len() {
+            if self.queued.at(at).tick <= now {
+                return Some(at);
+            }
+            at = self.past(at, now);
+        }
+        None
+    }
+
+    /// The next place after one at which no timer is due that may have a due one.
+    fn past(&self, at: u32, now: u64) -> u32
+        requires within { at < length self.now.queued }
+        requires late { is_due_at self.now now at ≡ false }
+        ensures further { at < result }
+        ensures none { NoneFrom (is_due_at self.now now) at result }
+    {
+        let timer = self.queued.at(at).timer;
+        if now < self.floors.of(timer) {
+            self.queued.before(timer.0 / BLOCK * BLOCK + BLOCK)
+        } else {
+            at + 1
+        }
     }
 
     /// Whether a timer is due later than now.
@@ -200,7 +224,8 @@ impl Timers {
         let was_queued = self.queued.put(timed);
         let queued = self.queued.as_slice();
         self.latest = latest_after(queued, self.latest, tick_of(went), timed.tick);
-        self.least = least_after(queued, self.least, tick_if(went), Some(timed.tick));
+        self.floors
+            .put(timed.timer, floor_in(&self.queued, timed.timer));
         was_queued
     }
 
@@ -227,7 +252,9 @@ impl Timers {
         let was_queued = self.queued.remove(o);
         let queued = self.queued.as_slice();
         self.latest = latest_after(queued, self.latest, tick_of(went), 0);
-        self.least = least_after(queued, self.least, tick_if(went), None);
+        if was_queued {
+            self.floors.put(o, floor_in(&self.queued, o));
+        }
         was_queued
     }
 

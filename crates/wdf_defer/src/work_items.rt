@@ -1,10 +1,13 @@
-ghost use Rattle.std.specs.Prelude.{◌≡◌, ◌<◌, ◌≤◌, ◌^◌, IfOk, Some, [], length, not, slice_get};
+ghost use Rattle.std.specs.Prelude.{◌≡◌, ◌<◌, ◌≤◌, ◌^◌, IfOk, Some, [], filter, length, not, option_map, slice_get};
+ghost use Rattle.std.specs.List.{range_with_len};
 ghost use Rattle.wdf_model.specs.parts.Deferred.WorkItems as work_items;
 ghost use Rattle.wdf_sets.specs.Members.{members};
+ghost use Rattle.wdf_defer.specs.WorkItems.{AreInOrder};
 
 use std::alloc::Global;
 use std::marker::Model;
 use wdf_base::{Memory, ObjectId, Plan};
+use wdf_maps::object_at;
 use wdf_model::OBJECTS;
 use wdf_sets::IdSet;
 
@@ -35,6 +38,14 @@ fn empty_set(alloc: Global, bound: u32) -> Result<IdSet, Memory>
     Ok(IdSet::make(alloc, bound)?)
 }
 
+/// A set has no member any more.
+fn clear_set(set: &mut IdSet)
+    ensures members { members set.new ≡ [] }
+    ensures room { length set.new ≡ length set.old }
+{
+    set.clear();
+}
+
 impl WorkItems {
     /// No work item is queued. On [`Memory`] nothing is made.
     pub fn make(alloc: Global, _plan: &Plan) -> Result<WorkItems, Memory>
@@ -43,6 +54,13 @@ impl WorkItems {
         Ok(WorkItems {
             queued: empty_set(alloc, OBJECTS)?,
         })
+    }
+
+    /// No work item is queued once more.
+    pub fn begin_again(&mut self)
+        ensures { self.new ≡ work_items.no_work_items }
+    {
+        clear_set(&mut self.queued);
     }
 
     /// How many work items are queued.
@@ -58,6 +76,23 @@ impl WorkItems {
         ensures { slice_get self.now.queued k ≡ Some result.0 }
     {
         ObjectId(self.queued.at(k).unwrap())
+    }
+
+    /// The same; `None` exactly where there are fewer.
+    pub fn nth(&self, k: u32) -> Option<ObjectId>
+        ensures item { option_map (λ o. o.0) result ≡ slice_get self.now.queued k }
+        ensures rising { AreInOrder self.now }
+    {
+        object_at(self.queued.at(k))
+    }
+
+    /// How many queued work items have a lesser id.
+    pub fn before(&self, o: ObjectId) -> u32
+        ensures count { result ≡ length (filter (λ x. work_items.is_work_queued self.now x) (range_with_len 0 o.0)) }
+        ensures rising { AreInOrder self.now }
+    {
+        let count = self.queued.before(o.0);
+        count
     }
 
     /// Whether the work item is queued.

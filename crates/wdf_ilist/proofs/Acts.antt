@@ -1,5 +1,5 @@
 -- What each call leaves: the tables are sound for the family that the call promises.
-use Rattle.std.proofs.Common.{ℕ, zero, suc, ◌≡◌, ◌+◌, ◌*◌, ◌<◌, ◌≤◌, ◌^◌, max, true, false, List, [], ◌∷◌, ◌++◌, length, map, replicate, slice_index, slice_set, Some, refl, sym, subst, ap, ◌∙◌, arith}
+use Rattle.std.proofs.Common.{ℕ, zero, suc, ◌≡◌, ◌+◌, ◌*◌, ◌<◌, ◌≤◌, ◌^◌, true, false, List, [], ◌∷◌, ◌++◌, length, map, replicate, slice_index, slice_set, Some, refl, sym, subst, ap, ◌∙◌, arith}
 use Rattle.std.proofs.lemmas.List.{length-replicate}
 use Rattle.std.proofs.lemmas.Bool.{ne_eqb}
 use Rattle.wdf_ilist.specs.Family.{Family, is_on, is_on_any, list_at, without, are_distinct}
@@ -58,8 +58,8 @@ next_alone places k = ap (linked_place k) (zero_at places k)
 previous_alone : (places k : ℕ) → previous_of (alone places) k ≡ k
 previous_alone places k = ap (linked_place k) (zero_at places k)
 
-pub sound_vacant : (lists items places : ℕ) → places ≡ 2 * max lists items → places < 2 ^ 32 → AreSound (alone places) (vacant lists items) (replicate lists [])
-sound_vacant lists items places e few =
+pub sound_vacant : (lists items places : ℕ) → 2 * lists ≤ places → 2 * items ≤ places → places < 2 ^ 32 → AreSound (alone places) (vacant lists items) (replicate lists [])
+sound_vacant lists items places ends numbers few =
     let size : length (zeros places) ≡ places = length-replicate places 0 in
     let owners : length (zeros items) ≡ items = length-replicate items 0 in
     let counts : length (zeros lists) ≡ lists = length-replicate lists 0 in
@@ -84,12 +84,20 @@ sound_vacant lists items places e few =
     } in
     record { linked = linked; as_many = counts ∙ sym many; room = room }
 
-pub sound_made : (lists items places : ℕ) (r : Rings) (m : Members) → places ≡ 2 * max lists items → places < 2 ^ 32 → r.next ≡ zeros places → r.previous ≡ zeros places
+pub sound_made : (lists items places : ℕ) (r : Rings) (m : Members) → 2 * lists ≤ places → 2 * items ≤ places → places < 2 ^ 32 → r.next ≡ zeros places → r.previous ≡ zeros places
     → m.owners ≡ zeros items → m.counts ≡ zeros lists → AreSound r m (replicate lists [])
-sound_made lists items places r m e few next previous owners counts =
+sound_made lists items places r m ends numbers few next previous owners counts =
     let rings : alone places ≡ r = ap (λ n. rings_of n (zeros places)) (sym next) ∙ ap (rings_of r.next) (sym previous) in
     let members : vacant lists items ≡ m = ap (λ n. members_of n (zeros lists)) (sym owners) ∙ ap (members_of m.owners) (sym counts) in
-    subst (λ z. AreSound z m (replicate lists [])) rings (subst (λ z. AreSound (alone places) z (replicate lists [])) members (sound_vacant lists items places e few))
+    subst (λ z. AreSound z m (replicate lists [])) rings (subst (λ z. AreSound (alone places) z (replicate lists [])) members (sound_vacant lists items places ends numbers few))
+
+-- the tables of any lists, with zeros in all places, are those of as many empty lists
+pub sound_cleared : (r r' : Rings) (m m' : Members) (ls : List (List ℕ)) → AreSound r m ls → r'.next ≡ zeros (length r.next) → r'.previous ≡ zeros (length r.previous)
+    → m'.owners ≡ zeros (length m.owners) → m'.counts ≡ zeros (length m.counts) → AreSound r' m' (replicate (length ls) [])
+sound_cleared r r' m m' ls s next previous owners counts =
+    let many : length m.counts ≡ length ls = s.as_many in
+    let ends : 2 * length m.counts ≤ length r.next = s.room.ends in
+    sound_made (length ls) (length m.owners) (length r.next) r' m' (omega arith) s.room.places s.room.few next (previous ∙ ap zeros s.room.both_ways) owners (counts ∙ ap zeros many)
 
 -- ---- an item goes
 

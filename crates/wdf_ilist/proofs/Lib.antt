@@ -3,7 +3,7 @@ pub mod Lists
 pub mod Places
 mod Paths
 mod Changes
-mod Zeros
+pub mod Zeros
 mod Joins
 mod Sound
 mod Read

@@ -1,6 +1,6 @@
 -- Lemmas on the lists of a family, for this crate and those that keep one: which list has an item,
 -- and what the lists are where an item went.
-use Rattle.std.proofs.Common.{ℕ, zero, suc, ◌≡◌, ◌≢◌, ◌⊎◌, ◌+◌, ◌<◌, ◌==◌, nat_lt, Bool, true, false, cond, List, [], ◌∷◌, length, map, drop, slice_set, length-set, get_or-set_same, get_or-set_other, Some, None, is_some, refl, sym, subst, ap, ◌∙◌, inl, inr, arith}
+use Rattle.std.proofs.Common.{ℕ, zero, suc, ◌≡◌, ◌≢◌, ◌⊎◌, ◌+◌, ◌<◌, ◌==◌, nat_lt, Bool, true, false, cond, List, [], ◌∷◌, length, map, drop, replicate, slice_set, length-set, get_or-set_same, get_or-set_other, Some, None, is_some, refl, sym, subst, ap, ◌∙◌, inl, inr, arith}
 use Rattle.std.specs.List.{position_or_len}
 use Rattle.std.proofs.lemmas.Bool.{eq-eqb, cases_eq, lt-ltb, or_right, or_parts}
 use Rattle.std.proofs.lemmas.List.Quantifiers.{position-Some}
@@ -8,6 +8,12 @@ use Rattle.std.proofs.lemmas.Bool.Decides.{nat_tests}
 use Rattle.std.proofs.lemmas.List.{ext_get_or, length-map}
 use Rattle.wdf_ilist.specs.Family.{Family, is_on, is_on_any, list_at, list_of, without, first_of, are_distinct, AreApart}
 use Rattle.wdf_ilist.proofs.Items.{without_off, first_once}
+
+-- ---- lists that are empty again
+
+-- as many as there were
+pub cleared : (old new : Family) (n m : ℕ) → length old.lists ≡ n → old.items ≡ m → new ≡ record { lists = replicate (length old.lists) []; items = old.items } → new ≡ record { lists = replicate n []; items = m }
+cleared old new n m lists items e = e ∙ rw (lists, items) refl
 
 -- ---- on any of the lists
 

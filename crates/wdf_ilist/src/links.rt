@@ -45,6 +45,14 @@ impl Links {
         })
     }
 
+    /// All lists are empty again. It takes constant time.
+    pub fn clear(&mut self)
+        ensures { self.new ≡ record { lists = replicate (length self.old.lists) []; items = self.old.items } }
+    {
+        self.rings.clear();
+        self.members.clear();
+    }
+
     /// How many items a list has: 0 where there is no such list.
     pub fn len(&self, list: u32) -> u32
         ensures { result ≡ length (list_at self.now.lists list) }

@@ -26,6 +26,15 @@ impl Members {
         })
     }
 
+    /// All lists are empty again, and the items on none.
+    pub(crate) fn clear(&mut self)
+        ensures owners { self.new.owners ≡ replicate (length self.old.owners) 0 }
+        ensures counts { self.new.counts ≡ replicate (length self.old.counts) 0 }
+    {
+        self.owners.clear();
+        self.counts.clear();
+    }
+
     /// The list that an item is on.
     pub(crate) fn owner(&self, item: u32) -> Option<u32>
         ensures { result ≡ (let owner = slice_index self.now.owners item in if owner == 0 then None else Some (owner - 1)) }

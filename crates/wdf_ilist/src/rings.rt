@@ -65,6 +65,15 @@ impl Rings {
         })
     }
 
+    /// Each place is a ring of its own again.
+    pub(crate) fn clear(&mut self)
+        ensures next { self.new.next ≡ replicate (length self.old.next) 0 }
+        ensures previous { self.new.previous ≡ replicate (length self.old.previous) 0 }
+    {
+        self.next.clear();
+        self.previous.clear();
+    }
+
     /// The place after this one.
     pub(crate) fn next(&self, place: u32) -> u32
         ensures { result ≡ next_of self.now place }

@@ -35,6 +35,13 @@ impl Table {
         })
     }
 
+    /// All numbers are 0 again.
+    pub(crate) fn clear(&mut self)
+        ensures { self.new ≡ replicate (length self.old) 0 }
+    {
+        self.numbers.clear();
+    }
+
     /// The number at a place, 0 past the last place.
     pub(crate) fn get(&self, place: u32) -> u32
         ensures { result ≡ slice_index self.now place }

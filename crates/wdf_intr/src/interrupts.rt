@@ -36,6 +36,13 @@ impl Interrupts {
         })
     }
 
+    /// No interrupt is enabled once more.
+    pub fn begin_again(&mut self)
+        ensures { self.new ≡ interrupts.no_interrupts }
+    {
+        self.enabled.clear();
+    }
+
     /// Whether an interrupt is enabled.
     pub fn is_enabled(&self, i: ObjectId) -> bool
         ensures value { result ≡ interrupts.is_enabled self.now i.0 }

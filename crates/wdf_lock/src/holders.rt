@@ -46,6 +46,16 @@ impl Holders {
         })
     }
 
+    /// No lock is held any more.
+    pub(crate) fn clear(&mut self)
+        ensures { self.new ≡ no_holders }
+    {
+        self.objects.clear();
+        self.devices.clear();
+        self.queues.clear();
+        self.taken.clear();
+    }
+
     /// The hold of a lock that is kept; None where it is free.
     pub(crate) fn of(&self, lock: LockRef) -> Option<Held>
         ensures { result ≡ held_at self.now lock }

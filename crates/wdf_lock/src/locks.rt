@@ -47,6 +47,15 @@ impl Locks {
         })
     }
 
+    /// No lock is held once more.
+    pub fn begin_again(&mut self)
+        ensures { self.new ≡ locks.no_locks }
+    {
+        self.held.clear();
+        self.holders.clear();
+        self.calls.clear();
+    }
+
     /// How many locks are held.
     pub fn held_len(&self) -> usize
         ensures { result ≡ length self.now.held }

@@ -4,10 +4,10 @@ use Rattle.std.specs.List.{insert, remove, list_any}
 use Rattle.std.specs.List.Sorted.{IsNonDecreasingBy, IsBinarySearchResult, IsSearchInRange}
 use Rattle.std.specs.Ordering.{nat_cmp, ordering_index}
 use Rattle.std.specs.declared.cmp.Ordering.TheVariants.{Less, Equal, Greater}
-use Rattle.std.proofs.lemmas.Bool.{eq-eqb, eqb-true}
+use Rattle.std.proofs.lemmas.Bool.{eq-eqb, eqb-true, ltb-true, ltb-false}
 use Rattle.std.proofs.lemmas.Bool.Decides.{nat_tests}
 use Rattle.wdf_model.specs.Tables.{in_order_by}
-use Rattle.wdf_maps.specs.Places.{rises, one_on, place_of, item_at, removed_at, entered_at, entry_of, others, with_entry, IsPlace}
+use Rattle.wdf_maps.specs.Places.{SplitsAt, number_of, rises, one_on, place_of, item_at, removed_at, entered_at, entry_of, others, with_entry, IsPlace}
 
 module _ {T : Type 0} (key : T → ℕ) where
   -- the parts of `rises` at a first item
@@ -46,6 +46,15 @@ module _ {T : Type 0} (key : T → ℕ) where
   at_least low high (suc i) (x ∷ xs) d h l =
       let a = rises_low low high x xs h in
       let r = at_least (suc (key x)) high i xs d (rises_rest low high x xs h) (omega arith) in
+      omega arith
+
+  -- the key of an item of the list is from the lowest on
+  pub key_from : (low high j : ℕ) (xs : List T) (y : T) → rises key low high xs ≡ true → slice_get xs j ≡ Some y → low ≤ key y
+  key_from low high j [] y h to = absurd (let z : ⊥ = cc in z)
+  key_from low high zero (w ∷ xs) y h to = let same : w ≡ y = cc in let s : key w ≡ key y = ap key same in let a = rises_low low high w xs h in omega arith
+  key_from low high (suc j) (w ∷ xs) y h to =
+      let a = rises_low low high w xs h in
+      let r = key_from (suc (key w)) high j xs y (rises_rest low high w xs h) to in
       omega arith
 
   rises_far : (low high i j : ℕ) (xs : List T) (d : T) → rises key low high xs ≡ true → i ≤ j → j < length xs → key (slice_index_or xs i d) ≤ key (slice_index_or xs j d)
@@ -92,6 +101,18 @@ module _ {T : Type 0} (key : T → ℕ) where
 
   greater_keys : (a b : ℕ) → nat_cmp a b ≡ Greater → b < a
   greater_keys a b h = grind (arith, nat_tests)
+
+  -- a later item has no lesser key
+  pub keys_rise : (low high i j : ℕ) (xs : List T) (x y : T) → rises key low high xs ≡ true → i ≤ j → slice_get xs i ≡ Some x → slice_get xs j ≡ Some y → key x ≤ key y
+  keys_rise low high i j [] x y h k at to = absurd (let z : ⊥ = cc in z)
+  keys_rise low high zero zero (w ∷ xs) x y h k at to = let same : x ≡ y = cc in rw same (omega arith)
+  keys_rise low high zero (suc j) (w ∷ xs) x y h k at to =
+      let same : w ≡ x = cc in
+      let r = key_from (suc (key w)) high j xs y (rises_rest low high w xs h) to in
+      let s : key w ≡ key x = ap key same in
+      omega arith
+  keys_rise low high (suc i) zero (w ∷ xs) x y h k at to = absurd (omega arith)
+  keys_rise low high (suc i) (suc j) (w ∷ xs) x y h k at to = keys_rise (suc (key w)) high i j xs x y (rises_rest low high w xs h) (omega arith) at to
 
   -- ---- the place of a key, and the list
 
@@ -202,6 +223,44 @@ module _ {T : Type 0} (key : T → ℕ) where
       let point = s (searchable low high k xs h) in
       place_missing k i xs l (λ j d m. less_keys _ _ (point.0 j d (omega arith) m)) (λ j d m n. greater_keys _ _ (point.1 j d m n))
 
+  -- ---- the items with lesser keys
+
+  one_further : (x : T) (k : ℕ) (xs : List T) (i : ℕ) → key x < k → SplitsAt key k xs i → SplitsAt key k (x ∷ xs) (suc i)
+  one_further x k xs i low s = record {
+    within = let w = s.within in omega arith;
+    lesser = λ j y at below. by_lesser j y at below;
+    others = λ j y at from. by_others j y at from;
+  }
+    where
+      by_lesser : (j : ℕ) (y : T) → slice_get (x ∷ xs) j ≡ Some y → j < suc i → key y < k
+      by_lesser zero y at below = let same : x ≡ y = cc in let e : key x ≡ key y = ap key same in omega arith
+      by_lesser (suc j) y at below = s.lesser j y at (omega arith)
+
+      by_others : (j : ℕ) (y : T) → slice_get (x ∷ xs) j ≡ Some y → suc i ≤ j → k ≤ key y
+      by_others zero y at from = absurd (omega arith)
+      by_others (suc j) y at from = s.others j y at (omega arith)
+
+  none_before : (low high k : ℕ) (x : T) (xs : List T) → k ≤ key x → rises key low high (x ∷ xs) ≡ true → SplitsAt key k (x ∷ xs) 0
+  none_before low high k x xs above h = record {
+    within = omega arith;
+    lesser = λ j y at below. absurd (omega arith);
+    others = λ j y at from. let r = keys_rise low high 0 j (x ∷ xs) x y h (omega arith) refl at in omega arith;
+  }
+
+  past_first : (x : T) (k : ℕ) (xs : List T) (r : Result ℕ ℕ) → key x < k → SplitsAt key k xs (number_of r) → SplitsAt key k (x ∷ xs) (number_of (one_on r))
+  past_first x k xs (Ok i) low s = one_further x k xs i low s
+  past_first x k xs (Err i) low s = one_further x k xs i low s
+
+  splits_by : (low high k : ℕ) (x : T) (xs : List T) (less same : Bool) → nat_lt (key x) k ≡ less → (key x == k) ≡ same → rises key low high (x ∷ xs) ≡ true
+      → SplitsAt key k xs (number_of (place_of key k xs)) → SplitsAt key k (x ∷ xs) (number_of (if less then one_on (place_of key k xs) else if same then Ok 0 else Err 0))
+  splits_by low high k x xs true same e f h rest = past_first x k xs (place_of key k xs) (ltb-true (key x) k e) rest
+  splits_by low high k x xs false true e f h rest = none_before low high k x xs (ltb-false (key x) k e) h
+  splits_by low high k x xs false false e f h rest = none_before low high k x xs (ltb-false (key x) k e) h
+
+  splits_placed : (low high k : ℕ) (xs : List T) → rises key low high xs ≡ true → SplitsAt key k xs (number_of (place_of key k xs))
+  splits_placed low high k [] h = record { within = omega arith; lesser = λ j y at below. absurd (let z : ⊥ = cc in z); others = λ j y at from. absurd (let z : ⊥ = cc in z) }
+  splits_placed low high k (x ∷ xs) h = splits_by low high k x xs (nat_lt (key x) k) (key x == k) refl refl h (splits_placed (suc (key x)) high k xs (rises_rest low high x xs h))
+
   entered_place : (high : ℕ) (xs : List T) (r : Result ℕ ℕ) (y : T) → rises key 0 high xs ≡ true → r ≡ place_of key (key y) xs → with_entry key y xs ≡ entered_at y xs r
   entered_place high xs r y h e = rw e (order_placed 0 high y xs h)
 
@@ -217,6 +276,7 @@ module _ {T : Type 0} (key : T → ℕ) where
         rest = rw e (filter_placed 0 high k xs h);
         rest_rises = rw e (rises_removed 0 high k xs h);
         entered = λ y same. entered_place high xs r y h (let P : ℕ → Type 0 = λ n. r ≡ place_of key n xs in subst P (sym same) e);
+        splits = rw e (splits_placed 0 high k xs h);
         entered_rises = λ y same m. entered_rises high xs r y h (let P : ℕ → Type 0 = λ n. r ≡ place_of key n xs in subst P (sym same) e) (omega arith);
       }
 

@@ -1,5 +1,5 @@
 -- Lists whose keys rise, and where a key is in one.
-use Rattle.std.specs.Prelude.{if◌then◌else◌, ℕ, suc, ◌<◌, ◌≡◌, Bool, true, ◌==◌, nat_le, nat_lt, not, ◌&&◌, List, [], ◌∷◌, length, filter, find, Option, None, Result, Ok, Err, slice_get, slice_set, insert, remove}
+use Rattle.std.specs.Prelude.{if◌then◌else◌, ℕ, suc, ◌<◌, ◌≤◌, ◌≡◌, Bool, true, ◌==◌, nat_le, nat_lt, not, ◌&&◌, List, [], ◌∷◌, length, filter, find, Option, Some, None, Result, Ok, Err, slice_get, slice_set, insert, remove}
 use Rattle.std.specs.List.Sorted.{IsSearchInRange}
 use Rattle.wdf_model.specs.Tables.{in_order_by}
 
@@ -50,7 +50,18 @@ others key id xs = filter (λ x. not (key x == id)) xs
 abbrev pub with_entry : {T : Type 0} → (T → ℕ) → T → List T → List T
 with_entry key x xs = in_order_by key x (others key (key x) xs)
 
--- What a place says of the entries: which one is there, and what an edit there leaves.
+-- the number of a place, where one was found and where one belongs
+abbrev pub number_of : Result ℕ ℕ → ℕ
+number_of (Ok place) = place
+number_of (Err place) = place
+
+-- The entries with a lesser id than one come first, so many of them.
+pub record SplitsAt {T : Type 0} (key : T → ℕ) (id : ℕ) (xs : List T) (count : ℕ) : Type 0 where
+  pub within : count ≤ length xs
+  pub lesser : (k : ℕ) (x : T) → slice_get xs k ≡ Some x → k < count → key x < id
+  pub others : (k : ℕ) (x : T) → slice_get xs k ≡ Some x → count ≤ k → id ≤ key x
+
+-- What a place says of the entries: which one is there, what an edit there leaves, and which come before it.
 pub record IsPlace {T : Type 0} (key : T → ℕ) (high id : ℕ) (xs : List T) (place : Result ℕ ℕ) : Type 0 where
   pub bound : IsSearchInRange place (length xs)
   pub found : entry_of key xs id ≡ item_at xs place
@@ -58,3 +69,4 @@ pub record IsPlace {T : Type 0} (key : T → ℕ) (high id : ℕ) (xs : List T) 
   pub rest_rises : rises key 0 high (removed_at xs place) ≡ true
   pub entered : (x : T) → key x ≡ id → with_entry key x xs ≡ entered_at x xs place
   pub entered_rises : (x : T) → key x ≡ id → id < high → rises key 0 high (entered_at x xs place) ≡ true
+  pub splits : SplitsAt key id xs (number_of place)

@@ -37,6 +37,13 @@ impl Counts {
         })
     }
 
+    /// Nothing is counted any more.
+    pub fn clear(&mut self)
+        ensures { self.new ≡ [] }
+    {
+        self.counts.clear();
+    }
+
     /// How many there are of an id.
     pub fn of(&self, id: ObjectId) -> u32
         ensures { result ≡ entry 0 self.now id.0 }

@@ -1,5 +1,5 @@
 ghost use Rattle.std.specs.Prelude.{◌≡◌, ◌<◌, ◌^◌, IfOk, None, Some, length, slice_get, is_some, [], true};
-ghost use Rattle.wdf_maps.specs.Places.{rises, IsPlace, entry_of, others, with_entry};
+ghost use Rattle.wdf_maps.specs.Places.{rises, IsPlace, SplitsAt, entry_of, others, with_entry};
 
 use crate::entry::Entry;
 use std::alloc::Global;
@@ -44,6 +44,14 @@ impl<T: Entry> Rising<T> {
         })
     }
 
+    /// There is no entry any more.
+    pub fn clear(&mut self)
+        ensures room { self.new.room ≡ self.old.room }
+        ensures entries { self.new.entries ≡ [] }
+    {
+        self.entries.clear();
+    }
+
     /// How many entries there are.
     pub fn len(&self) -> u32
         ensures { result ≡ length self.now.entries }
@@ -64,6 +72,16 @@ impl<T: Entry> Rising<T> {
         ensures { result.now ≡ self.now.entries }
     {
         self.entries.as_slice()
+    }
+
+    /// How many entries have a lesser id than this one: they come first.
+    pub fn before(&self, id: u32) -> u32
+        ensures { SplitsAt T.id id self.now.entries result }
+    {
+        match place_in(self.entries.as_slice(), id) {
+            Ok(at) => at as u32,
+            Err(at) => at as u32,
+        }
     }
 
     /// The entry with an id.

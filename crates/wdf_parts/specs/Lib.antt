@@ -1,3 +1,4 @@
 pub mod Inside
 pub mod List
 pub mod Asking
+pub mod Again

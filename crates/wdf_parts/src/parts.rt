@@ -2,6 +2,7 @@ ghost use Rattle.std.specs.Prelude.{◌≡◌, ◌≤◌, ◌+◌, ◌<◌, ◌^
 ghost use Rattle.wdf_model.specs.State.{opening, opening_agents};
 ghost use Rattle.wdf_model.specs.Tables.{entry};
 ghost use Rattle.wdf_model.specs.rules.Deeds.{counted, told};
+ghost use Rattle.wdf_parts.specs.Again.{IsSized};
 
 use std::alloc::Global;
 use std::marker::Model;
@@ -94,6 +95,34 @@ impl<A: Agent> Parts<A> {
             clock: 0,
             number: 0,
         })
+    }
+
+    /// The state at the opening of the plan's run once more, with these agents; those that it had are dropped. It takes no
+    /// memory.
+    pub fn begin_again(&mut self, plan: &IndexedPlan, agents: Vec<A>)
+        requires objects { length plan.now.declared ≤ 4096 }
+        requires agents { agents.items ≡ opening_agents plan.now A.meaning }
+        requires sized { IsSized plan.now self.old }
+        ensures { self.new ≡ opening plan.now A.meaning }
+    {
+        let plan = plan.plan();
+        self.tree.begin_again(plan);
+        self.cpus.begin_again(plan);
+        self.locks.begin_again();
+        self.requests.begin_again();
+        self.queues.begin_again(plan);
+        self.control.begin_again(plan);
+        self.power.begin_again(plan);
+        self.pnp.begin_again(plan);
+        self.interrupts.begin_again();
+        self.dpcs.begin_again(plan);
+        self.work_items.begin_again();
+        self.timers.begin_again();
+        self.targets.begin_again(plan);
+        self.agents = agents;
+        self.arrivals.clear();
+        self.clock = 0;
+        self.number = 0;
     }
 
     /// The objects.

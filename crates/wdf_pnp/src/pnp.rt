@@ -1,5 +1,7 @@
-ghost use Rattle.std.specs.Prelude.{◌≡◌, ◌<◌, IfOk, length};
+ghost use Rattle.std.specs.Prelude.{◌≡◌, ℕ, ◌+◌, ◌<◌, IfOk, length};
+ghost use Rattle.wdf_model.specs.Tables.{entry};
 ghost use Rattle.wdf_model.specs.parts.Pnp as pnp;
+ghost use Rattle.wdf_pnp.specs.Opening.{sequence_at};
 
 use crate::sequence::Sequence;
 use std::alloc::Global;
@@ -22,6 +24,19 @@ impl Model for Pnp {
     ghost view = { λ p. record { devices = p.devices.items } };
 }
 
+/// Each device is at the opening of a plan's run once more.
+fn begin_all(devices: &mut Vec<Sequence>, plan: &Plan)
+    requires ids { length devices.old.items ≡ 1 + length plan.now.declared }
+    requires steps { (d : ℕ) → (entry pnp.no_sequence devices.old.items d).steps ≡ (sequence_at plan.now d).steps }
+    ensures { devices.new.items ≡ (pnp.opening_pnp plan.now).devices }
+{
+    let ids = 1 + plan.declared_len() as usize;
+    for id in 0..ids {
+        let device = &mut devices[id];
+        device.begin_again(plan, ObjectId(id as u32));
+    }
+}
+
 impl Pnp {
     /// The opening of the plan's run: no sequence is under way. It takes all memory that the
     /// sequences need: each device has room for its longest list of steps.
@@ -34,6 +49,16 @@ impl Pnp {
             devices.push(Sequence::make(alloc, plan, ObjectId(id as u32))?)?;
         }
         Ok(Pnp { devices })
+    }
+
+    /// The opening of a plan's run once more, where the table has the plan's size and the steps of devices are made of
+    /// what it says.
+    pub fn begin_again(&mut self, plan: &Plan)
+        requires ids { length self.old.devices ≡ 1 + length plan.now.declared }
+        requires steps { (d : ℕ) → (pnp.sequence_of self.old d).steps ≡ (sequence_at plan.now d).steps }
+        ensures { self.new ≡ pnp.opening_pnp plan.now }
+    {
+        begin_all(&mut self.devices, plan);
     }
 
     /// How many entries the table of devices has. It has one for the id 0 and for each declared object.

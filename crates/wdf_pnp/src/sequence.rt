@@ -49,6 +49,13 @@ fn is_success(value: Value) -> bool
     }
 }
 
+/// How far a device has come at the opening: one that works is as if a power-up had ended. (own)
+fn opening_phase(working: bool) -> Phase
+    ensures { result ≡ pnp.opening_phase working }
+{
+    if working { Phase::Working } else { Phase::Off }
+}
+
 impl Sequence {
     /// With no step left, and room for the longest list.
     fn idle(
@@ -76,16 +83,30 @@ impl Sequence {
         ensures { IfOk result (λ device. device ≡ sequence_at plan.now d.0) }
     {
         match device_of(plan, d) {
-            Some(info) => {
-                let phase = if info.working {
-                    Phase::Working
-                } else {
-                    Phase::Off
-                };
-                Sequence::idle(alloc, device_steps(alloc, plan, d)?, phase, info.working)
-            }
+            Some(info) => Sequence::idle(
+                alloc,
+                device_steps(alloc, plan, d)?,
+                opening_phase(info.working),
+                info.working,
+            ),
             None => Sequence::idle(alloc, DeviceSteps::none(alloc), Phase::Removed, false),
         }
+    }
+
+    /// The device at the opening of a plan's run once more, where its steps are made of what the plan says.
+    pub(crate) fn begin_again(&mut self, plan: &Plan, d: ObjectId)
+        requires { self.old.steps ≡ (sequence_at plan.now d.0).steps }
+        ensures { self.new ≡ sequence_at plan.now d.0 }
+    {
+        let device = device_of(plan, d);
+        self.list.clear();
+        self.taken = 0;
+        self.running = None;
+        self.ever_working = device.is_some_and(|info| info.working);
+        self.phase = match device {
+            Some(info) => opening_phase(info.working),
+            None => Phase::Removed,
+        };
     }
 
     /// The next step, if one is left.

@@ -3,17 +3,21 @@ use Rattle.std.proofs.Common.{◌≡◌, ◌≢◌, ◌⊎◌, inl, inr, ℕ, ze
 use Rattle.std.proofs.Math.Bool.{and-false, and-true, or-false}
 use Rattle.std.proofs.lemmas.Bool.{and_parts, cases_eq, cases_lt, eq-eqb, eqb-true, ne_eqb}
 use Rattle.std.proofs.lemmas.List.{get_or-set_other, length-replicate}
+use Rattle.std.proofs.lemmas.List.FromFn.{length-map-range_with_len}
+use Rattle.wdf_base.specs.declared.plan.Plan.{Plan}
+use Rattle.wdf_model.specs.Plans.{declared_ids}
+use Rattle.wdf_model.specs.declared.entries.DevicePower.{DevicePower}
 use Rattle.wdf_model.specs.declared.entries.Holding.{Holding}
 use Rattle.wdf_model.specs.declared.entries.QueuePower.{QueuePower}
 use Rattle.wdf_model.specs.Tables.{entry, put}
-use Rattle.wdf_model.specs.parts.Power.{Power, is_held, is_held_at, is_unsettled_at, no_holding, woken}
+use Rattle.wdf_model.specs.parts.Power.{Power, is_held, is_held_at, is_unsettled_at, no_holding, opening_power, opening_queue_power, woken}
 use Rattle.wdf_model.proofs.Counts.{one_or_two}
 use Rattle.wdf_model.proofs.Maps.{entry_map, entry_past, entry_put_other, entry_put_same}
 use Rattle.wdf_ilist.specs.Family.{Family, is_on, is_on_any, list_at, without}
 use Rattle.wdf_ilist.proofs.Items.{off_without, on_without, on_pushed}
 use Rattle.wdf_ilist.proofs.Lists.{map_at, off_all}
 use Rattle.wdf_power.specs.Held.{AreListed}
-use Rattle.wdf_power.specs.Power.{device_at, held_list, is_list, device_list, IsMoved}
+use Rattle.wdf_power.specs.Power.{device_at, held_list, is_list, device_list, opening_device_at, IsMoved}
 
 -- ---- a request is on another list
 
@@ -130,6 +134,12 @@ listed_made qs hs F n m h e = rw (h, e) (none_listed qs n)
 
 pub lists_made : (F : Family) (n m : ℕ) → F ≡ record { lists = replicate n []; items = m } → length F.lists ≡ n
 lists_made F n m e = rw e (length-replicate n [])
+
+-- each declared id is in both tables
+pub as_many_made : (plan : Plan) (queues : List QueuePower) (devices : List DevicePower) → queues ≡ (opening_power plan).queues → devices ≡ map (opening_device_at plan) (declared_ids plan) → length queues ≡ length devices
+as_many_made plan queues devices q d =
+    let n : ℕ = suc (length plan.declared) in
+    ap length q ∙ length-map-range_with_len (opening_queue_power plan) 0 n ∙ sym (ap length d ∙ length-map-range_with_len (opening_device_at plan) 0 n)
 
 -- ---- who is unsettled
 

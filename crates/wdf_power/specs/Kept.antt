@@ -9,7 +9,9 @@ use Rattle.wdf_power.specs.Held.{AreListed}
 abbrev pub power_in : Inside → Power
 power_in a = record { devices = a.devices.items; queues = a.holdings.queues; holdings = a.holdings.holdings }
 
+-- There is a list for each id that a device can have, and one more; and as many queues as devices, since each id is in both tables.
 pub record IsSound (a : Inside) : Type 0 where
   pub lists : length a.held.lists ≡ OBJECTS + 1
   pub items : a.held.items ≡ OBJECTS
   pub listed : AreListed a.holdings.queues a.holdings.holdings a.held.lists
+  pub as_many : length a.holdings.queues ≡ length a.devices.items

@@ -1,4 +1,4 @@
-ghost use Rattle.std.specs.Prelude.{◌≡◌, ◌<◌, ◌≤◌, IfOk, IfSome, Some, count_by, if◌then◌else◌, length, map, option_map};
+ghost use Rattle.std.specs.Prelude.{◌≡◌, ◌+◌, ◌<◌, ◌≤◌, IfOk, IfSome, Some, count_by, if◌then◌else◌, length, map, option_map};
 ghost use Rattle.std.specs.List.{list_any};
 ghost use Rattle.wdf_maps.specs.Counts.{is_at};
 ghost use Rattle.wdf_model.specs.Tables.{entry, least, lesser, put};
@@ -6,7 +6,7 @@ ghost use Rattle.wdf_model.specs.parts.Power as power;
 ghost use Rattle.wdf_power.specs.Held.{AreListed};
 ghost use Rattle.wdf_power.specs.Power.{device_list, due_at, held_list, opening_holdings, unsettled_at};
 
-use crate::opening::opening_queues;
+use crate::opening::{opening_queues, write_queues};
 use std::alloc::Global;
 use std::marker::Model;
 use wdf_base::{Memory, ObjectId, Plan};
@@ -130,6 +130,17 @@ impl Holdings {
             unsettled: Counts::make(alloc)?,
             due: Counts::make(alloc)?,
         })
+    }
+
+    /// Nothing is held, from any queue of a plan of as many ids, once more.
+    pub(crate) fn begin_again(&mut self, plan: &Plan)
+        requires { length self.old.queues ≡ 1 + length plan.now.declared }
+        ensures { self.new ≡ opening_holdings plan.now }
+    {
+        write_queues(&mut self.queues, plan);
+        self.all.clear();
+        self.unsettled.clear();
+        self.due.clear();
     }
 
     /// How far a request has come.

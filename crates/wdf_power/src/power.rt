@@ -1,10 +1,10 @@
-ghost use Rattle.std.specs.Prelude.{◌≡◌, ◌<◌, IfOk, IfSome, length, option_map};
+ghost use Rattle.std.specs.Prelude.{◌≡◌, ◌+◌, ◌<◌, IfOk, IfSome, length, option_map};
 ghost use Rattle.wdf_model.specs.Tables.{least, put};
 ghost use Rattle.wdf_model.specs.parts.Power as power;
 ghost use Rattle.wdf_power.specs.Power.{IsMoved};
 
 use crate::holdings::{Holdings, NO_HOLDING, is_held};
-use crate::opening::opening_devices;
+use crate::opening::{opening_devices, write_devices};
 use std::alloc::Global;
 use std::marker::Model;
 use wdf_base::{Memory, ObjectId, Plan, Stage, Step};
@@ -70,6 +70,16 @@ impl Power {
             holdings: Holdings::make(alloc, plan)?,
             held: Links::make(alloc, LISTS, OBJECTS)?,
         })
+    }
+
+    /// The opening of a plan's run once more, of as many ids.
+    pub fn begin_again(&mut self, plan: &Plan)
+        requires { length self.old.devices ≡ 1 + length plan.now.declared }
+        ensures { self.new ≡ power.opening_power plan.now }
+    {
+        write_devices(&mut self.devices, plan);
+        self.holdings.begin_again(plan);
+        self.held.clear();
     }
 
     /// How many entries the table of devices has. It has one for the id 0 and for each declared object.

@@ -1,11 +1,11 @@
-ghost use Rattle.std.specs.Prelude.{◌≡◌, ◌<◌, IfOk, length, true, false};
+ghost use Rattle.std.specs.Prelude.{◌≡◌, ◌+◌, ◌<◌, IfOk, length, true, false};
 ghost use Rattle.wdf_model.specs.declared.enums.Mode.TheVariants.{Started, Stopped, Drained, Purged};
 ghost use Rattle.wdf_model.specs.Tables.{put};
 ghost use Rattle.wdf_model.specs.parts.Control as control;
 ghost use Rattle.wdf_model.specs.parts.Control.{no_control};
 ghost use Rattle.wdf_qctl.specs.Kept.{seen};
 
-use crate::modes::{NO_CONTROL, accepts_in, delivers_in, opening_controls};
+use crate::modes::{NO_CONTROL, accepts_in, delivers_in, opening_controls, write_controls};
 use std::alloc::Global;
 use std::marker::Model;
 use wdf_base::{Memory, ObjectId, Plan};
@@ -57,6 +57,15 @@ impl Control {
         let kept = opening_controls(alloc, plan)?;
         let closed = Vec::with_capacity(alloc, kept.len())?;
         Ok(Control { kept, closed })
+    }
+
+    /// The control at the opening of a plan's run once more, of as many ids.
+    pub fn begin_again(&mut self, plan: &Plan)
+        requires { length self.old.controls ≡ 1 + length plan.now.declared }
+        ensures { self.new ≡ control.opening_control plan.now }
+    {
+        self.closed.clear();
+        write_controls(&mut self.kept, plan);
     }
 
     /// What is kept of a queue; that of a purged queue for what is none.

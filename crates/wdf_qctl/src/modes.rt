@@ -1,6 +1,6 @@
 //! What a mode says, and the opening of the queues.
 
-ghost use Rattle.std.specs.Prelude.{◌≡◌, Some, IfOk};
+ghost use Rattle.std.specs.Prelude.{◌≡◌, ◌+◌, ◌≤◌, Some, IfOk, length, vec_capacity};
 ghost use Rattle.wdf_model.specs.Plans.{as_queue};
 ghost use Rattle.wdf_model.specs.parts.Control as control;
 
@@ -56,9 +56,18 @@ pub(crate) fn opening_controls(alloc: Global, plan: &Plan) -> Result<Vec<QueueCo
     ensures { IfOk result (λ all. all.items ≡ (control.opening_control plan.now).controls) }
 {
     let mut all = Vec::with_capacity(alloc, 1 + plan.declared_len() as usize)?;
-    all.push(NO_CONTROL)?;
-    for k in 0..plan.declared_len() {
-        all.push(opening_mode(plan.declared(ObjectId(k + 1))))?;
-    }
+    write_controls(&mut all, plan);
     Ok(all)
+}
+
+/// Writes the controls at the opening, by id.
+pub(crate) fn write_controls(all: &mut Vec<QueueControl>, plan: &Plan)
+    requires { 1 + length plan.now.declared ≤ vec_capacity all.old }
+    ensures { all.new.items ≡ (control.opening_control plan.now).controls }
+{
+    all.clear();
+    all.push_reserved(NO_CONTROL);
+    for k in 0..plan.declared_len() {
+        all.push_reserved(opening_mode(plan.declared(ObjectId(k + 1))));
+    }
 }

@@ -1,6 +1,6 @@
 //! How the queues present their requests.
 
-ghost use Rattle.std.specs.Prelude.{◌≡◌, Some, IfOk};
+ghost use Rattle.std.specs.Prelude.{◌≡◌, ◌+◌, ◌≤◌, Some, IfOk, length, vec_capacity};
 ghost use Rattle.wdf_model.specs.Plans.{as_queue};
 ghost use Rattle.wdf_model.specs.parts.Queues as queues;
 
@@ -34,9 +34,18 @@ pub(crate) fn opening_dispatches(alloc: Global, plan: &Plan) -> Result<Vec<Dispa
     ensures { IfOk result (λ all. all.items ≡ (queues.opening_queues plan.now).dispatch) }
 {
     let mut all = Vec::with_capacity(alloc, 1 + plan.declared_len() as usize)?;
-    all.push(DispatchKind::Manual)?;
-    for k in 0..plan.declared_len() {
-        all.push(opening_dispatch(plan.declared(ObjectId(k + 1))))?;
-    }
+    write_dispatches(&mut all, plan);
     Ok(all)
+}
+
+/// Writes how the declared objects present requests, by id.
+pub(crate) fn write_dispatches(all: &mut Vec<DispatchKind>, plan: &Plan)
+    requires { 1 + length plan.now.declared ≤ vec_capacity all.old }
+    ensures { all.new.items ≡ (queues.opening_queues plan.now).dispatch }
+{
+    all.clear();
+    all.push_reserved(DispatchKind::Manual);
+    for k in 0..plan.declared_len() {
+        all.push_reserved(opening_dispatch(plan.declared(ObjectId(k + 1))));
+    }
 }

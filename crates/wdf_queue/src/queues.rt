@@ -3,7 +3,7 @@ ghost use Rattle.wdf_model.specs.Tables.{put};
 ghost use Rattle.wdf_model.specs.parts.Queues as queues;
 ghost use Rattle.wdf_model.specs.parts.Queues.{held_count, held_in, is_waiting, waiting_in};
 
-use crate::dispatch::{is_free_by, opening_dispatches};
+use crate::dispatch::{is_free_by, opening_dispatches, write_dispatches};
 use std::alloc::Global;
 use std::marker::Model;
 use wdf_base::{DispatchKind, Memory, ObjectId, Plan};
@@ -48,6 +48,16 @@ impl Queues {
             waiting: Links::make(alloc, ids, OBJECTS)?,
             held: no_counts(alloc, ids as usize)?,
         })
+    }
+
+    /// The queues at the opening of a plan's run once more, of as many ids.
+    pub fn begin_again(&mut self, plan: &Plan)
+        requires { length self.old.dispatch ≡ 1 + length plan.now.declared }
+        ensures { self.new ≡ queues.opening_queues plan.now }
+    {
+        self.waiting.clear();
+        zero_counts(&mut self.held);
+        write_dispatches(&mut self.dispatch, plan);
     }
 
     /// The request at the front of a queue, `None` exactly where none waits there.
@@ -212,6 +222,13 @@ impl Queues {
             self.drop_front(q);
         }
     }
+}
+
+/// Every count is 0 again.
+fn zero_counts(counts: &mut Vec<u32>)
+    ensures { counts.new.items ≡ replicate (length counts.old.items) 0 }
+{
+    counts.as_mut_slice().fill(0);
 }
 
 /// A count of 0 for each id.

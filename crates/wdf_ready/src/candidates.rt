@@ -1,7 +1,6 @@
 //! The candidates of each group, by place.
 ghost use Rattle.std.specs.Prelude.{◌≡◌, ◌<◌, ◌≤◌, ◌^◌, length, slice_get, option_map};
 ghost use Rattle.wdf_base.specs.declared.rank.Rank.TheVariants as rank;
-ghost use Rattle.wdf_base.specs.Callbacks.{dpc_function};
 ghost use Rattle.wdf_model.specs.declared.enums.Group.TheVariants as group;
 ghost use Rattle.wdf_model.specs.rules.Groups as groups;
 ghost use Rattle.wdf_model.specs.parts.Cpus as cpus;
@@ -11,8 +10,6 @@ use wdf_base::{Agent, Callback, Cpu, Event, ObjectId, Place, Rank, Step, same_ca
 use wdf_model::Group;
 use wdf_parts::Parts;
 use wdf_plan_index::IndexedPlan;
-use wdf_posts::{due_of, post_answer};
-use wdf_steps::own_event;
 
 /// The start of a callback on an object.
 pub(crate) fn starts<A: Agent>(
@@ -48,153 +45,6 @@ pub(crate) fn starts_for<A: Agent>(
         callback,
         object: parts.handle_in(plan, o),
         request: Some(parts.handle_in(plan, r)),
-    }
-}
-
-/// The service routine of an interrupt.
-fn isr_start<A: Agent>(plan: &IndexedPlan, parts: &Parts<A>, cpu: Cpu, i: ObjectId) -> Option<Event>
-    ensures { result ≡ groups.start_at plan.now parts.now cpu.0 rank.Isr i.0 }
-{
-    if plan.interrupt_of(i).is_some() {
-        Some(starts(plan, parts, cpu, Callback::EvtInterruptIsr, i))
-    } else {
-        None
-    }
-}
-
-/// The first DPC of a processor.
-fn dpc_start<A: Agent>(
-    plan: &IndexedPlan,
-    parts: &Parts<A>,
-    cpu: Cpu,
-    place: usize,
-) -> Option<Event>
-    ensures { result ≡ groups.start_at plan.now parts.now cpu.0 rank.Deferred place }
-{
-    let o = parts.dpcs().dpc_head(cpu)?;
-    let callback = parts.tree().kind(o).dpc_function();
-    Some(starts(plan, parts, cpu, callback, o))
-}
-
-/// A queued timer, by its place.
-fn timer_start<A: Agent>(
-    plan: &IndexedPlan,
-    parts: &Parts<A>,
-    cpu: Cpu,
-    place: usize,
-) -> Option<Event>
-    requires { place < length parts.now.timers.queued }
-    ensures { result ≡ groups.start_at plan.now parts.now cpu.0 rank.Timed place }
-{
-    let _timers = parts.timers().len();
-    let timed = parts.timers().at(place as u32);
-    Some(starts(plan, parts, cpu, Callback::EvtTimerFunc, timed.timer))
-}
-
-/// A queue's notification.
-fn notification_start<A: Agent>(
-    plan: &IndexedPlan,
-    parts: &Parts<A>,
-    cpu: Cpu,
-    q: ObjectId,
-) -> Option<Event>
-    ensures { result ≡ groups.start_at plan.now parts.now cpu.0 rank.QueueState q.0 }
-{
-    if plan.queue_of(q).is_some() {
-        Some(starts(plan, parts, cpu, Callback::EvtIoQueueState, q))
-    } else {
-        None
-    }
-}
-
-/// The front request of a queue, by its handler.
-fn front_start<A: Agent>(
-    plan: &IndexedPlan,
-    parts: &Parts<A>,
-    cpu: Cpu,
-    q: ObjectId,
-) -> Option<Event>
-    ensures { result ≡ groups.start_at plan.now parts.now cpu.0 rank.Handler q.0 }
-{
-    let r = parts.queues().front(q)?;
-    let callback = plan.handler_for(q, parts.requests().info(r).form)?;
-    Some(starts_for(plan, parts, cpu, callback, q, r))
-}
-
-/// The start of a step's callback.
-fn start_of_step<A: Agent>(
-    plan: &IndexedPlan,
-    parts: &Parts<A>,
-    cpu: Cpu,
-    d: ObjectId,
-    step: Step,
-) -> Option<Event>
-    ensures { result ≡ groups.start_of_step plan.now parts.now cpu.0 d.0 step }
-{
-    match step {
-        Step::Run {
-            callback,
-            interrupt: None,
-        } => Some(starts(plan, parts, cpu, callback, d)),
-        Step::Run {
-            callback,
-            interrupt: Some(interrupt),
-        } => Some(starts(plan, parts, cpu, callback, interrupt.id)),
-        Step::Pass { .. } => None,
-    }
-}
-
-/// The next step of a device, where it is a callback.
-fn step_start<A: Agent>(
-    plan: &IndexedPlan,
-    parts: &Parts<A>,
-    cpu: Cpu,
-    d: ObjectId,
-) -> Option<Event>
-    ensures { result ≡ groups.start_at plan.now parts.now cpu.0 rank.Sequence d.0 }
-{
-    start_of_step(plan, parts, cpu, d, parts.pnp().next_step(d)?)
-}
-
-/// A queued work item, by its place.
-fn work_start<A: Agent>(
-    plan: &IndexedPlan,
-    parts: &Parts<A>,
-    cpu: Cpu,
-    place: usize,
-) -> Option<Event>
-    requires { place < length parts.now.work_items.queued }
-    ensures { result ≡ groups.start_at plan.now parts.now cpu.0 rank.Work place }
-{
-    let _work_items = parts.work_items().len();
-    let o = parts.work_items().at(place as u32);
-    Some(starts(plan, parts, cpu, Callback::EvtWorkItem, o))
-}
-
-/// The candidate among the starts of a rank at a place.
-pub(crate) fn start_at<A: Agent>(
-    plan: &IndexedPlan,
-    parts: &Parts<A>,
-    cpu: Cpu,
-    rank: Rank,
-    place: usize,
-) -> Option<Event>
-    requires within { place < groups.places_of_rank plan.now parts.now rank }
-    requires small { place < 2 ^ 32 }
-    ensures { result ≡ groups.start_at plan.now parts.now cpu.0 rank place }
-{
-    let id = ObjectId(place as u32);
-    match rank {
-        Rank::Isr => isr_start(plan, parts, cpu, id),
-        Rank::Deferred => dpc_start(plan, parts, cpu, place),
-        Rank::Timed => timer_start(plan, parts, cpu, place),
-        Rank::QueueState => notification_start(plan, parts, cpu, id),
-        Rank::Handler => front_start(plan, parts, cpu, id),
-        Rank::Sequence => step_start(plan, parts, cpu, id),
-        Rank::Work => work_start(plan, parts, cpu, place),
-        Rank::Cleanup => Some(starts(plan, parts, cpu, Callback::EvtCleanupCallback, id)),
-        Rank::Destroy => Some(starts(plan, parts, cpu, Callback::EvtDestroyCallback, id)),
-        Rank::Completion | Rank::Cancel | Rank::CanceledOnQueue | Rank::Stop | Rank::Resume => None,
     }
 }
 
@@ -291,53 +141,8 @@ pub(crate) fn completion_at<A: Agent>(
     }
 }
 
-/// What an agent posts now.
-pub(crate) fn posted_at<A: Agent>(plan: &IndexedPlan, parts: &Parts<A>, agent: u16) -> Option<Event>
-    ensures { result ≡ groups.candidate plan.now A.meaning parts.now group.Posts agent }
-{
-    let post = due_of(parts, agent)?;
-    Some(Event::Posted {
-        agent,
-        post,
-        answer: post_answer(plan, parts, agent, &post),
-    })
-}
-
-/// The candidate of a group at a place.
-pub(crate) fn candidate<A: Agent>(
-    plan: &IndexedPlan,
-    parts: &Parts<A>,
-    group: Group,
-    place: usize,
-) -> Option<Event>
-    requires within { place < groups.places_in plan.now parts.now group }
-    requires small { place < 2 ^ 32 }
-    requires agents { length parts.now.agents ≤ 2 ^ 16 }
-    ensures { result ≡ groups.candidate plan.now A.meaning parts.now group place }
-{
-    let id = ObjectId(place as u32);
-    match group {
-        Group::OwnEvent { cpu } => own_event(plan, parts, Cpu(cpu)),
-        Group::Parks { cpu } => parks(parts, Cpu(cpu)),
-        Group::Unparks { cpu } => unparks(parts, Cpu(cpu), place),
-        Group::Starts { cpu, rank } => start_at(plan, parts, Cpu(cpu), rank, place),
-        Group::StartsFor { cpu, rank, object } => {
-            start_for(plan, parts, Cpu(cpu), rank, ObjectId(object), place)
-        }
-        Group::Stages => stage_at(plan, parts, id),
-        Group::Completions => completion_at(plan, parts, id),
-        Group::Cleanups => Some(Event::Cleanup {
-            object: parts.handle_in(plan, id),
-        }),
-        Group::Destroys => Some(Event::Destroy {
-            object: parts.handle_in(plan, id),
-        }),
-        Group::Posts => posted_at(plan, parts, place as u16),
-    }
-}
-
 /// The top frame leaves a processor.
-fn parks<A: Agent>(parts: &Parts<A>, cpu: Cpu) -> Option<Event>
+pub(crate) fn parks<A: Agent>(parts: &Parts<A>, cpu: Cpu) -> Option<Event>
     ensures { result ≡ option_map (groups.parks cpu.0) (cpus.top parts.now.cpus cpu.0) }
 {
     let frame = parts.cpus().top(cpu)?;
@@ -345,7 +150,7 @@ fn parks<A: Agent>(parts: &Parts<A>, cpu: Cpu) -> Option<Event>
 }
 
 /// A parked frame comes back to a processor, by its place.
-fn unparks<A: Agent>(parts: &Parts<A>, cpu: Cpu, place: usize) -> Option<Event>
+pub(crate) fn unparks<A: Agent>(parts: &Parts<A>, cpu: Cpu, place: usize) -> Option<Event>
     ensures { result ≡ option_map (groups.unparks cpu.0) (slice_get parts.now.cpus.parked place) }
 {
     let frame = parts.cpus().parked_at(place)?;

@@ -8,8 +8,12 @@ ghost use Rattle.wdf_ready.specs.Leaving.{DeletedSettled, group_of};
 ghost use Rattle.wdf_ready.specs.Search as search;
 
 use crate::actor::is_by;
-use crate::candidates::{candidate, completion_at, is_declared_somewhere, places_in};
-use crate::direct::{cleanup_offered, completion_offered, completions_len, end_offered, own_len};
+use crate::candidates::{
+    completion_at, is_declared_somewhere, parks, places_in, stage_at, start_for, unparks,
+};
+use crate::direct::{
+    cleanup_offered, completion_offered, completions_len, end_offered, own_len, post_offered,
+};
 use crate::due::{next_due, next_startable};
 use crate::idle::is_idle;
 use crate::leaving::{Leaving, numbered_at, numbered_len};
@@ -20,19 +24,11 @@ use wdf_parts::Parts;
 use wdf_plan_index::IndexedPlan;
 use wdf_steps::{may, own_event};
 
-/// The candidate of a group at a place, if its test says that it may come.
-fn tested<A: Agent>(
-    plan: &IndexedPlan,
-    parts: &Parts<A>,
-    group: Group,
-    place: usize,
-) -> Option<Event>
-    requires within { place < groups.places_in plan.now parts.now group }
-    requires small { place < 2 ^ 32 }
-    requires agents { length parts.now.agents ≤ 2 ^ 16 }
-    ensures { result ≡ search.offered plan.now A.meaning parts.now group place }
+/// An event, if it may come.
+fn allowed<A: Agent>(plan: &IndexedPlan, parts: &Parts<A>, event: Option<Event>) -> Option<Event>
+    ensures { result ≡ search.if_allowed plan.now A.meaning parts.now event }
 {
-    let event = candidate(plan, parts, group, place)?;
+    let event = event?;
     if may(plan, parts, &event) {
         Some(event)
     } else {
@@ -52,13 +48,21 @@ fn offered<A: Agent>(
     requires agents { length parts.now.agents ≤ 2 ^ 16 }
     ensures { result ≡ search.offered plan.now A.meaning parts.now group place }
 {
+    let id = ObjectId(place as u32);
     match group {
         Group::OwnEvent { cpu } => own_event(plan, parts, Cpu(cpu)),
+        Group::Parks { cpu } => allowed(plan, parts, parks(parts, Cpu(cpu))),
+        Group::Unparks { cpu } => allowed(plan, parts, unparks(parts, Cpu(cpu), place)),
         Group::Starts { cpu, rank } => start_offered(plan, parts, Cpu(cpu), rank, place),
-        Group::Completions => completion_at(plan, parts, ObjectId(place as u32)),
-        Group::Cleanups => cleanup_offered(plan, parts, ObjectId(place as u32)),
-        Group::Destroys => end_offered(plan, parts, ObjectId(place as u32)),
-        _ => tested(plan, parts, group, place),
+        Group::StartsFor { cpu, rank, object } => {
+            let event = start_for(plan, parts, Cpu(cpu), rank, ObjectId(object), place);
+            allowed(plan, parts, event)
+        }
+        Group::Stages => allowed(plan, parts, stage_at(plan, parts, id)),
+        Group::Completions => completion_at(plan, parts, id),
+        Group::Cleanups => cleanup_offered(plan, parts, id),
+        Group::Destroys => end_offered(plan, parts, id),
+        Group::Posts => post_offered(plan, parts, place as u16),
     }
 }
 

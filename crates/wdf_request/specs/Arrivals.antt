@@ -23,6 +23,10 @@ opening_rows plan count = map (opening_row plan) (range_with_len 0 count)
 abbrev pub opening_arrivals : Plan → Noted
 opening_arrivals plan = record { rows = opening_rows plan (1 + length plan.agents); twice = false }
 
+-- a row whose places are empty again
+abbrev pub emptied : List ℕ → List ℕ
+emptied row = replicate (length row) 0
+
 abbrev pub row_of : List (List ℕ) → ℕ → List ℕ
 row_of rows agent = entry [] rows agent
 

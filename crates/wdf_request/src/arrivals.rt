@@ -1,6 +1,6 @@
-ghost use Rattle.std.specs.Prelude.{◌≡◌, ◌+◌, ◌<◌, ◌^◌, IfOk, false, length, replicate, slice_index_or, slice_set};
+ghost use Rattle.std.specs.Prelude.{◌≡◌, ◌+◌, ◌<◌, ◌^◌, IfOk, false, length, map, replicate, slice_index_or, slice_set};
 ghost use Rattle.wdf_model.specs.Tables.{entry};
-ghost use Rattle.wdf_request.specs.Arrivals.{has_slot as has_slot_for, is_sure as is_sure_of, noted, opening_arrivals, slot as slot_for};
+ghost use Rattle.wdf_request.specs.Arrivals.{emptied, has_slot as has_slot_for, is_sure as is_sure_of, noted, opening_arrivals, slot as slot_for};
 
 use std::alloc::Global;
 use std::marker::Model;
@@ -30,6 +30,13 @@ impl Row {
         Ok(Row {
             slots: vec![in alloc; 0; most as usize + 1]?,
         })
+    }
+
+    /// All places are 0 again.
+    fn clear(&mut self)
+        ensures { self.new ≡ replicate (length self.old) 0 }
+    {
+        self.slots.as_mut_slice().fill(0);
     }
 
     /// How many places there are.
@@ -69,6 +76,15 @@ fn empty_rows(alloc: Global, plan: &Plan) -> Result<Vec<Row>, Memory>
     Ok(rows)
 }
 
+/// All places of all rows are 0 again.
+fn clear_rows(rows: &mut [Row])
+    ensures { rows.new ≡ map emptied rows.old }
+{
+    for row in rows.iter_mut() {
+        row.clear();
+    }
+}
+
 /// Which request each arrival made, by the agent and the number of its arrival.
 #[derive(Drop)]
 pub(crate) struct Arrivals {
@@ -95,6 +111,14 @@ impl Arrivals {
             rows: empty_rows(alloc, plan)?,
             twice: false,
         })
+    }
+
+    /// Nothing arrived. Each number has its place still.
+    pub(crate) fn clear(&mut self)
+        ensures { self.new ≡ record { rows = map emptied self.old.rows; twice = false } }
+    {
+        clear_rows(self.rows.as_mut_slice());
+        self.twice = false;
     }
 
     /// Whether there is a place for an arrival.

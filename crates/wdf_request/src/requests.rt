@@ -82,6 +82,22 @@ impl Requests {
         })
     }
 
+    /// No request once more.
+    pub fn begin_again(&mut self)
+        ensures { self.new ≡ requests.no_requests }
+    {
+        self.all.clear();
+        self.arrived = 0;
+        self.returning.clear();
+        self.sent.clear();
+        self.unfinished.clear();
+        self.open_count = 0;
+        self.closing.clear();
+        self.due.clear();
+        self.sendings.clear();
+        self.arrivals.clear();
+    }
+
     /// Past the id of the last request that came.
     pub fn len(&self) -> u32
         ensures { result ≡ length self.now.all }

@@ -7,7 +7,7 @@ ghost use Rattle.wdf_serve.specs.Words.{service_for};
 ghost use Rattle.wdf_top.specs.Top.{sourcing, Tells};
 
 use crate::run::serve_threaded;
-use crate::words::{is_threaded, is_watch};
+use crate::words::threaded;
 use std::alloc::Global;
 use std::sync::Wait;
 use std::thread::Threads;
@@ -62,9 +62,8 @@ fn answer<R: Threads + Wait + Sync, S: Source, K: Sink + Send, G: Gate + Sync>(
         result }
     ensures not_again { result ≡ 13 → EndsRefused K.refused K.faults sink.old sink.new }
 {
-    if is_threaded(words) {
-        serve_threaded(rt, alloc, is_watch(words), source, sink, gate)
-    } else {
-        top_plain(alloc, words, source, sink)
+    match threaded(words) {
+        Some(how) => serve_threaded(rt, alloc, how, source, sink, gate),
+        None => top_plain(alloc, words, source, sink),
     }
 }

@@ -10,6 +10,7 @@ ghost use Rattle.wdf_output.specs.Said.{sinking};
 ghost use Rattle.wdf_top.specs.Answers.{Freely, running};
 ghost use Rattle.wdf_top.specs.Top.{sourcing, TellsBy, TellsPlan};
 
+use crate::words::Threaded;
 use std::alloc::Global;
 use std::sync::Wait;
 use std::thread::Threads;
@@ -19,7 +20,7 @@ use wdf_dev::AnyAgent;
 use wdf_io::{Sink, Source};
 use wdf_live::write_watched;
 use wdf_output::{Refusal, tell, write_run};
-use wdf_top::{opening, read_plan, read_plan_twice};
+use wdf_top::{opening, read_plan, read_plan_and_copy};
 use wdf_turn::Gate;
 use wdf_workers::run_threads;
 
@@ -28,7 +29,7 @@ use wdf_workers::run_threads;
 pub fn serve_threaded<R: Threads + Wait + Sync, S: Source, K: Sink + Send, G: Gate + Sync>(
     rt: &R,
     alloc: Global,
-    is_watched: bool,
+    how: Threaded,
     source: &mut S,
     sink: &mut K,
     gate: &G,
@@ -39,10 +40,9 @@ pub fn serve_threaded<R: Threads + Wait + Sync, S: Source, K: Sink + Send, G: Ga
         result }
     ensures not_again { result ≡ 13 → EndsRefused K.refused K.faults sink.old sink.new }
 {
-    if is_watched {
-        watch_input(rt, alloc, source, sink, gate)
-    } else {
-        run_input(rt, alloc, source, sink, gate)
+    match how {
+        Threaded::Run => run_input(rt, alloc, source, sink, gate),
+        Threaded::Watch => watch_input(rt, alloc, source, sink, gate),
     }
 }
 
@@ -60,7 +60,7 @@ fn watch_input<R: Threads + Wait + Sync, S: Source, K: Sink + Send, G: Gate + Sy
         result }
     ensures not_again { result ≡ 13 → EndsRefused K.refused K.faults sink.old sink.new }
 {
-    match read_plan_twice(alloc, source) {
+    match read_plan_and_copy(alloc, source) {
         Ok((plan, other)) => tell_watched(rt, alloc, plan, &other, sink, gate),
         Err(refusal) => tell(sink, refusal),
     }

@@ -1,21 +1,23 @@
 //! The words `run` and `watch`.
-ghost use Rattle.std.specs.Prelude.{◌≡◌, map, string_bytes};
+ghost use Rattle.std.specs.Prelude.{◌≡◌, is_some, map, string_bytes};
 ghost use Rattle.wdf_serve.specs.Words.{is_threaded};
 
-/// Whether the words after the program's name are `run` alone or `watch` alone.
-pub fn is_threaded(words: &[String]) -> bool
-    ensures { result ≡ is_threaded (map string_bytes words.now) }
-{
-    match words {
-        [word] => word.as_str() == "run" || word.as_str() == "watch",
-        _ => false,
-    }
+/// How the text of a run that threads make is written. Both are promised the same.
+#[derive(Clone, Copy)]
+pub enum Threaded {
+    /// `run`: once the run has ended.
+    Run,
+    /// `watch`: while the run is made.
+    Watch,
 }
 
-/// Whether they are `watch` alone. No promise differs, so no clause says which.
-pub fn is_watch(words: &[String]) -> bool {
+/// What the words after the program's name ask of threads: `run` alone or `watch` alone; `None` exactly for other words.
+pub fn threaded(words: &[String]) -> Option<Threaded>
+    ensures { is_some result ≡ is_threaded (map string_bytes words.now) }
+{
     match words {
-        [word] => word.as_str() == "watch",
-        _ => false,
+        [word] if word.as_str() == "run" => Some(Threaded::Run),
+        [word] if word.as_str() == "watch" => Some(Threaded::Watch),
+        _ => None,
     }
 }

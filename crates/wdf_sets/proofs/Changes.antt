@@ -1,11 +1,21 @@
 -- The counts of a set go on as a bit is written.
-use Rattle.std.proofs.Common.{ℕ, ◌≡◌, ◌+◌, ◌-◌, ◌*◌, ◌/◌, ◌<◌, ◌≤◌, ◌^◌, ◌⊎◌, Bool, true, false, List, length, slice_index, slice_set, get_or, length-set, get_or-set_same, get_or-set_other, sym, ap, ◌∙◌, refl, subst, inl, inr, arith}
+use Rattle.std.proofs.Common.{ℕ, ◌≡◌, ◌+◌, ◌-◌, ◌*◌, ◌/◌, ◌<◌, ◌≤◌, ◌^◌, ◌⊎◌, Bool, true, false, List, length, replicate, slice_index, slice_set, get_or, length-set, get_or-set_same, get_or-set_other, sym, ap, ◌∙◌, refl, subst, inl, inr, arith}
 use Rattle.std.specs.Bool.{beq}
-use Rattle.std.proofs.lemmas.List.{get_or_read}
+use Rattle.std.proofs.lemmas.List.{get_or_read, length-replicate}
 use Rattle.std.proofs.lemmas.Bool.{cases_order}
 use Rattle.wdf_sets.specs.Counted.{AreCounted}
 use Rattle.wdf_sets.specs.Members.{is_in, rank}
-use Rattle.wdf_sets.proofs.Ranks.{one, rank_more, rank_mono, rank_part, rank_set_below, rank_set_above}
+use Rattle.wdf_sets.proofs.Ones.{zero_word}
+use Rattle.wdf_sets.proofs.Ranks.{one, rank_more, rank_mono, rank_none, rank_part, rank_set_below, rank_set_above}
+
+-- a set without members
+pub counted_none : (n m : ℕ) → n ≡ 4096 * m → n ≤ 2 ^ 31 → AreCounted (replicate n false) (replicate m 0) 0
+counted_none n m e few = record {
+  blocks = length-replicate n false ∙ e ∙ ap (λ k. 4096 * k) (sym (length-replicate m 0));
+  few = subst (λ k. k ≤ 2 ^ 31) (sym (length-replicate n false)) few;
+  whole = sym (rank_none n (length (replicate n false)));
+  counted = λ b h. rw (zero_word m b, rank_none n (4096 * b), rank_none n (4096 * b + 4096)) refl;
+}
 
 -- a count with a bit written
 counted_by : (bits : List Bool) (counts : List ℕ) (x new b : ℕ) (on : Bool) → x < length bits → length bits ≡ 4096 * length counts → new + one (is_in x bits) ≡ slice_index counts (x / 4096) + one on

@@ -129,7 +129,7 @@ bits_written words id word on h w =
 
 -- ---- words of zeros
 
-zero_word : (n k : ℕ) → slice_index (replicate n 0) k ≡ 0
+pub zero_word : (n k : ℕ) → slice_index (replicate n 0) k ≡ 0
 zero_word zero k = refl
 zero_word (suc n) zero = refl
 zero_word (suc n) (suc k) = zero_word n k

@@ -1,5 +1,5 @@
 -- Lemmas on ranks and members, for this crate and those that keep a set.
-use Rattle.std.proofs.Common.{ℕ, zero, suc, ◌≡◌, ◌⊎◌, ◌+◌, ◌-◌, ◌<◌, ◌≤◌, Bool, true, false, cond, List, [], ◌∷◌, ◌++◌, length, take, slice_set, Some, None, slice_get, refl, sym, subst, ap, ◌∙◌, inl, inr, arith}
+use Rattle.std.proofs.Common.{ℕ, zero, suc, ◌≡◌, ◌⊎◌, ◌+◌, ◌-◌, ◌<◌, ◌≤◌, Bool, true, false, cond, List, [], ◌∷◌, ◌++◌, length, replicate, take, slice_set, Some, None, slice_get, refl, sym, subst, ap, ◌∙◌, inl, inr, arith}
 use Rattle.std.specs.List.{count_by, filter, range_with_len}
 use Rattle.std.proofs.lemmas.Bool.{cases_lt}
 use Rattle.std.proofs.lemmas.List.{append_assoc, get_or_past, length_push, take_all}
@@ -12,6 +12,13 @@ one b = cond b 1 0
 
 rank_cons : (x : ℕ) (b : Bool) (bs : List Bool) → rank (suc x) (b ∷ bs) ≡ one b + rank x bs
 rank_cons x b bs = sum_by-cons one b (take x bs)
+
+-- no member is below any id of a set without members
+pub rank_none : (n x : ℕ) → rank x (replicate n false) ≡ 0
+rank_none zero zero = refl
+rank_none zero (suc x) = refl
+rank_none (suc n) zero = refl
+rank_none (suc n) (suc x) = let tail = rank_none n x in let head : rank (suc x) (false ∷ replicate n false) ≡ 0 + rank x (replicate n false) = rank_cons x false (replicate n false) in omega arith
 
 more_by : (bits : List Bool) (x : ℕ) (b : Bool) → x < length bits → is_in x bits ≡ b → rank (x + 1) bits ≡ rank x bits + one b
 more_by bits x true h e = count_by_more_yes (λ b. b) bits x false h e

@@ -3,6 +3,7 @@ ghost use Rattle.wdf_sets.specs.Members.{is_in, members, rank};
 ghost use Rattle.wdf_sets.specs.Parts.{HasMember, number_of};
 ghost use Rattle.wdf_sets.specs.Words.{Writes};
 
+use crate::words::Words;
 use std::alloc::Global;
 use std::marker::Model;
 use wdf_base::Memory;
@@ -22,7 +23,7 @@ pub(crate) struct Part {
 /// Bits by id, in words.
 #[derive(Drop)]
 pub(crate) struct Bits {
-    words: Vec<u64>,
+    words: Words,
 }
 
 /// A word with the bit at a place written.
@@ -51,7 +52,7 @@ impl Model for Bits {
 
     ghost Value = { List Bool };
 
-    ghost view = { λ b. bits_of b.words.items };
+    ghost view = { λ b. bits_of b.words };
 }
 
 impl Bits {
@@ -60,16 +61,22 @@ impl Bits {
         ensures { IfOk result (λ bits. bits ≡ replicate (64 * words) false) }
     {
         Ok(Bits {
-            words: vec![in alloc; 0; words as usize]?,
+            words: Words::make(alloc, words)?,
         })
+    }
+
+    /// All bits are false again.
+    pub(crate) fn clear(&mut self)
+        ensures { self.new ≡ replicate (length self.old) false }
+    {
+        self.words.clear();
     }
 
     /// The bit of an id, false past the last one.
     pub(crate) fn get(&self, id: u32) -> bool
         ensures { result ≡ is_in id self.now }
     {
-        let word = self.words.get((id / WORD) as usize).copied().unwrap_or(0);
-        (word >> (id % WORD)) & 1 == 1
+        (self.words.get(id / WORD) >> (id % WORD)) & 1 == 1
     }
 
     /// Writes the bit of an id.
@@ -77,8 +84,8 @@ impl Bits {
         requires { id < length self.old }
         ensures { self.new ≡ slice_set self.old id on }
     {
-        let word = &mut self.words[(id / WORD) as usize];
-        *word = with_bit(*word, id % WORD, on);
+        let word = self.words.get(id / WORD);
+        self.words.set(id / WORD, with_bit(word, id % WORD, on));
     }
 
     /// How many bits of the word that begins with an id are true.
@@ -88,7 +95,7 @@ impl Bits {
         ensures count { result + rank start self.now ≡ rank (start + 64) self.now }
         ensures small { result ≤ 64 }
     {
-        ones(self.words[(start / WORD) as usize])
+        ones(self.words.get(start / WORD))
     }
 
     /// How many bits of `width` ids from `start` on, which are less than a word, are true.
@@ -97,7 +104,7 @@ impl Bits {
         requires within { start < length self.now }
         ensures { result + rank start self.now ≡ rank (start + width) self.now }
     {
-        let word = self.words[(start / WORD) as usize] >> (start % WORD);
+        let word = self.words.get(start / WORD) >> (start % WORD);
         ones(word & ((1 << width) - 1))
     }
 

@@ -39,9 +39,16 @@ impl Model for IdSet {
     ghost invariant = { IsCounted };
 }
 
+/// Nothing is counted in any block any more.
+fn zero_counts(counts: &mut Vec<u32>)
+    ensures { counts.new.items ≡ replicate (length counts.old.items) 0 }
+{
+    counts.as_mut_slice().fill(0);
+}
+
 impl IdSet {
     /// The empty set of ids below a bound, which is rounded up to a multiple of 4,096. All memory is
-    /// taken here. On [`Memory`] nothing is made.
+    /// taken here, and it is written only as far as ids are used. On [`Memory`] nothing is made.
     pub fn make(alloc: Global, bound: u32) -> Result<IdSet, Memory>
         requires { bound < 2 ^ 31 }
         ensures { IfOk result (λ set. set ≡ replicate (4096 * div_ceil bound 4096) false) }
@@ -52,6 +59,15 @@ impl IdSet {
             counts: vec![in alloc; 0; blocks as usize]?,
             len: 0,
         })
+    }
+
+    /// The set has no member any more.
+    pub fn clear(&mut self)
+        ensures { self.new ≡ replicate (length self.old) false }
+    {
+        self.bits.clear();
+        zero_counts(&mut self.counts);
+        self.len = 0;
     }
 
     /// How many members there are.

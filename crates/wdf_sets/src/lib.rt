@@ -4,5 +4,6 @@
 
 mod bits;
 mod id_set;
+mod words;
 
 pub use id_set::IdSet;

@@ -30,6 +30,16 @@ impl Model for Target {
     ghost invariant = { IsSound };
 }
 
+/// Whether a target is stopped at the opening: what is no target is.
+fn opening_stopped(info: Option<TargetInfo>) -> bool
+    ensures { result ≡ (targets.opening_target info).stopped }
+{
+    match info {
+        Some(_) => false,
+        None => true,
+    }
+}
+
 impl Target {
     /// A target that has nothing. On [`Memory`] nothing is made.
     fn make(alloc: Global, depth: u64, stopped: bool) -> Result<Target, Memory>
@@ -50,6 +60,15 @@ impl Target {
             Some(info) => Target::make(alloc, info.depth, false),
             None => Target::make(alloc, 0, true),
         }
+    }
+
+    /// The target as it is at the opening once more, where it has the declared depth.
+    pub(crate) fn begin_again(&mut self, info: Option<TargetInfo>)
+        requires { self.old.depth ≡ (targets.opening_target info).depth }
+        ensures { self.new ≡ targets.opening_target info }
+    {
+        self.stopped = opening_stopped(info);
+        self.sent.clear();
     }
 
     /// How many requests it holds.

@@ -1,4 +1,5 @@
-ghost use Rattle.std.specs.Prelude.{◌≡◌, ◌<◌, ◌≤◌, IfOk, None, Some, false, if◌then◌else◌, is_some, length, slice_get};
+ghost use Rattle.std.specs.Prelude.{◌≡◌, ℕ, ◌+◌, ◌<◌, ◌≤◌, IfOk, None, Some, false, if◌then◌else◌, is_some, length, slice_get};
+ghost use Rattle.wdf_model.specs.Tables.{entry};
 ghost use Rattle.wdf_model.specs.parts.Targets as targets;
 
 use crate::target::Target;
@@ -46,6 +47,19 @@ fn open(alloc: Global, plan: &Plan) -> Result<Vec<Target>, Memory>
     Ok(all)
 }
 
+/// Each target is as it is at the opening once more.
+fn begin_all(all: &mut Vec<Target>, plan: &Plan)
+    requires ids { length all.old.items ≡ 1 + length plan.now.declared }
+    requires depths { (t : ℕ) → (entry targets.no_target all.old.items t).depth ≡ (targets.the_target (targets.opening_targets plan.now) t).depth }
+    ensures { all.new.items ≡ (targets.opening_targets plan.now).targets }
+{
+    let ids = plan.declared_len() as usize + 1;
+    for id in 0..ids {
+        let target = &mut all[id];
+        target.begin_again(target_of(plan, ObjectId(id as u32)));
+    }
+}
+
 impl Targets {
     /// The declared targets, which are started and have nothing. On [`Memory`] nothing is made.
     pub fn make(alloc: Global, plan: &Plan) -> Result<Targets, Memory>
@@ -55,6 +69,17 @@ impl Targets {
             targets: open(alloc, plan)?,
             holders: Vec::with_capacity(alloc, OBJECTS as usize)?,
         })
+    }
+
+    /// The declared targets once more, which are started and have nothing, where the table has the plan's size and the
+    /// targets the plan's depths.
+    pub fn begin_again(&mut self, plan: &Plan)
+        requires ids { length self.old.targets ≡ 1 + length plan.now.declared }
+        requires depths { (t : ℕ) → (targets.the_target self.old t).depth ≡ (targets.the_target (targets.opening_targets plan.now) t).depth }
+        ensures { self.new ≡ targets.opening_targets plan.now }
+    {
+        begin_all(&mut self.targets, plan);
+        self.holders.clear();
     }
 
     /// How many requests a target holds.

@@ -39,7 +39,7 @@ pub fn read_plan<S: Source>(alloc: Global, source: &mut S) -> Result<Plan, Refus
 /// # Errors
 ///
 /// [`Refusal`], as of [`read_plan`].
-pub fn read_plan_twice<S: Source>(alloc: Global, source: &mut S) -> Result<(Plan, Plan), Refusal>
+pub fn read_plan_and_copy<S: Source>(alloc: Global, source: &mut S) -> Result<(Plan, Plan), Refusal>
     ensures plan { IfOk result (λ plans. (input : List ℕ) × IsRead (sourcing (S.left source.old) (S.left source.new) (S.faults source.old) (S.faults source.new)) input × HasPlan input plans.0) }
     ensures same { IfOk result (λ plans. plans.1 ≡ plans.0) }
     ensures cause { IfErr result (λ refusal. IsCause all_of (sourcing (S.left source.old) (S.left source.new) (S.faults source.old) (S.faults source.new)) refusal) }

@@ -76,9 +76,9 @@ holds_empty test n bits none room e = record {
 -- ---- both sets
 
 -- the id 0 alone
-pub leaving_at_first : (ns : List Node) (n : ℕ) (asked cleaned : List Bool) → ns ≡ gone ∷ [] → OBJECTS ≤ n → asked ≡ replicate n false → cleaned ≡ replicate n false → HoldsLeaving ns asked cleaned
-leaving_at_first ns n asked cleaned one room a c =
-    rw one (record { asked = holds_empty is_asked n asked refl room a; cleaned = holds_empty is_cleaned n cleaned refl room c })
+pub leaving_at_first : (ns : List Node) (n k : ℕ) (asked cleaned : List Bool) → ns ≡ gone ∷ [] → OBJECTS ≤ n → OBJECTS ≤ k → asked ≡ replicate n false → cleaned ≡ replicate k false → HoldsLeaving ns asked cleaned
+leaving_at_first ns n k asked cleaned one room space a c =
+    rw one (record { asked = holds_empty is_asked n asked refl room a; cleaned = holds_empty is_cleaned k cleaned refl space c })
 
 pub live_unasked : (l : Life) → is_live l ≡ true → is_asked l ≡ false
 live_unasked life.Live h = refl

@@ -114,10 +114,46 @@ impl Tree {
         ensures opening { IfOk result (λ made. made ≡ tree.opening_tree plan.now) }
     {
         let mut tree = Tree::empty(alloc, plan.objects(), OBJECTS)?;
-        for declared in plan.declared.as_slice() {
-            tree.enter(declared_node(declared));
-        }
+        tree.declare(plan);
         Ok(tree)
+    }
+
+    /// The tree at the opening of a plan's run once more.
+    pub fn begin_again(&mut self, plan: &Plan)
+        requires { length plan.now.declared < OBJECTS }
+        ensures { self.new ≡ tree.opening_tree plan.now }
+    {
+        self.clear(plan.objects());
+        self.declare(plan);
+    }
+
+    /// The declared objects come into a tree that has no object.
+    fn declare(&mut self, plan: &Plan)
+        requires few { length plan.now.declared < OBJECTS }
+        requires empty { self.old ≡ record { limit = plan.now.objects; nodes = tree.gone ∷ [] } }
+        ensures { self.new ≡ tree.opening_tree plan.now }
+    {
+        for declared in plan.declared.as_slice() {
+            self.enter(declared_node(declared));
+        }
+    }
+
+    /// No object is there any more, and there may be as many as this.
+    fn clear(&mut self, limit: u32)
+        ensures { self.new ≡ record { limit = limit; nodes = tree.gone ∷ [] } }
+    {
+        self.limit = limit;
+        self.nodes.clear();
+        self.nodes.push_reserved(gone());
+        self.devices.clear();
+        self.devices.push_reserved(DRIVER);
+        self.count = 0;
+        self.children.clear();
+        self.waiting.clear();
+        self.asked.clear();
+        self.cleaned.clear();
+        self.turns.clear();
+        self.ends.clear();
     }
 
     /// The tree with no object, and with room for as many.

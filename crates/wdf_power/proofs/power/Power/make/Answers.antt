@@ -2,7 +2,7 @@
 use Rattle.std.proofs.Common.{ap}
 use Rattle.wdf_model.specs.parts.Power.{Power}
 use Rattle.wdf_ilist.specs.Family.{Family}
-use Rattle.wdf_power.proofs.Listing.{listed_made, lists_made}
+use Rattle.wdf_power.proofs.Listing.{as_many_made, listed_made, lists_made}
 use Rattle.wdf_power.proofs.power.Power.make.Goals as goal
 
 pub invariant_of-result : goal.invariant_of-result
@@ -10,4 +10,5 @@ invariant_of-result c = record {
   lists = lists_made c.in_ok-make-2.field-0 204098 204097 c.in_ok-make-2.ensures;
   items = ap (λ (F : Family). F.items) c.in_ok-make-2.ensures;
   listed = listed_made _ _ c.in_ok-make-2.field-0 204098 204097 (ap (λ (P : Power). P.holdings) c.in_ok-make.ensures) c.in_ok-make-2.ensures;
+  as_many = as_many_made c.args.plan.now _ _ (ap (λ (P : Power). P.queues) c.in_ok-make.ensures) c.in_ok-opening_devices.ensures;
 }

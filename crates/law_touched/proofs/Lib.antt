@@ -1,0 +1,17 @@
+pub mod Comes
+pub mod Deeds
+pub mod Events
+pub mod Fields
+pub mod Frames
+pub mod Goes
+pub mod Groups
+pub mod Law
+pub mod Lists
+pub mod Own
+pub mod Pieces
+pub mod Ranks
+pub mod Runs
+pub mod Same
+pub mod Starts
+pub mod Totals
+pub mod Waits

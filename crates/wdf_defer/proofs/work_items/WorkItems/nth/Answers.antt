@@ -1,0 +1,8 @@
+use Rattle.std.proofs.Common.{subst}
+use Rattle.wdf_model.specs.parts.Deferred.WorkItems.{WorkItems}
+use Rattle.wdf_defer.specs.WorkItems.{AreInOrder}
+use Rattle.wdf_defer.proofs.QueuedWork.{in_order_of}
+use Rattle.wdf_defer.proofs.work_items.WorkItems.nth.Goals as goal
+
+pub returns-clause-rising : goal.returns-clause-rising
+returns-clause-rising c = subst (λ (W : WorkItems). AreInOrder W) c.self.view_is (in_order_of c.self.inside.queued)

@@ -1,0 +1,12 @@
+-- The queues so far are those of the ids so far, and there is room for the rest.
+use Rattle.std.proofs.Common.{◌≡◌, ◌≤◌, map, vec_capacity, vec_len}
+use Rattle.std.specs.List.{range_with_len}
+use Rattle.wdf_model.specs.parts.Power.{opening_queue_power}
+use Rattle.wdf_power.proofs.opening.write_queues.Given as goal
+
+abbrev pub invariant-loop-id : goal.invariant-loop-id
+invariant-loop-id l = record {
+  those : l.queues.items ≡ map (opening_queue_power l.plan) (range_with_len 0 l.id);
+  as_many : vec_len l.queues ≡ l.id;
+  room : l.count ≤ vec_capacity l.queues;
+}

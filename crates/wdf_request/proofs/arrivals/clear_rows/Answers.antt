@@ -1,0 +1,10 @@
+-- One row more is empty.
+use Rattle.std.proofs.Common.{◌<◌, length, arith}
+use Rattle.std.proofs.lemmas.List.Edits.{map_over_more}
+use Rattle.wdf_request.specs.Arrivals.{emptied}
+use Rattle.wdf_request.proofs.arrivals.clear_rows.Goals as goal
+
+pub loop-row-preserved : goal.loop-row-preserved
+loop-row-preserved c =
+    let within : c.loop-row.row-index < length c.args.rows.now = omega arith in
+    rw (c.clear.ensures, ← c.row-item.is) (map_over_more emptied c.args.rows.now c.loop-row.rows c.loop-row.row-index c.row-item.result within c.loop-row.invariant c.row-item.is)
