@@ -1,0 +1,130 @@
+-- The sum of tables: what it is, and when and why there is none. (own)
+use Rattle.std.specs.Prelude.{ℕ, ◌≡◌, ◌≢◌, ◌⊎◌, ◌+◌, ◌<◌, ◌≤◌, ◌^◌, List, [], ◌∷◌, ◌++◌, length, map, take, Some, slice_get}
+use Rattle.std.specs.List.{All}
+use Rattle.std.specs.List.Sorted.{IsPermutation, IsSorted}
+use Rattle.std.specs.declared.cmp.Ordering.{Ordering}
+use Rattle.std.specs.Ordering.{nat_cmp, ordering_then}
+use Rattle.wdf_run_text.specs.Lines.{trace_lines}
+use Rattle.wdf_table.specs.Tables.{IsTallyOf, all_seeds}
+use Rattle.wdf_sum.specs.declared.line.Seeds.{Seeds}
+use Rattle.wdf_sum.specs.declared.line.TableLine.{TableLine}
+use Rattle.wdf_sum.specs.declared.line.TableLine.TheVariants.{OfKind, Last}
+use Rattle.wdf_sum.specs.declared.refused.Why.{Why}
+use Rattle.wdf_sum.specs.declared.refused.Why.TheVariants as why
+use Rattle.wdf_sum.specs.declared.refused.Bad.{Bad}
+use Rattle.wdf_sum.specs.declared.refused.Bad.TheVariants.{NoMemory, AtLine}
+use Rattle.wdf_sum.specs.declared.tables.Tables.{Tables}
+use Rattle.wdf_sum.specs.declared.sum.Sum.{Sum}
+use Rattle.wdf_sum.specs.Lines.{IsTableEnd, IsTableLine, line_text, rows_in, ends_in, count_of, events_of}
+
+-- ---- what lines come to
+
+-- What these lines of tables come to: their rows, what their last lines say, and how many seeds and events these have. Where a
+-- table ends, the rows so far count as many seeds as the last lines say.
+pub record IsReadAs (lines : List TableLine) (tables : Tables) : Type 0 where
+  pub tally : IsTallyOf (rows_in lines) tables.tally
+  pub ends : tables.ends.items ≡ ends_in lines
+  pub proper : All IsTableEnd (ends_in lines)
+  pub seeds : tables.seeds ≡ all_seeds (rows_in lines)
+  pub count : tables.count ≡ count_of (ends_in lines)
+  pub events : tables.events ≡ events_of (ends_in lines)
+  pub not_more : tables.count ≤ tables.seeds
+
+-- ---- bad lines
+
+-- with this line there are more seeds or more events than a number of 64 bits says
+abbrev pub AreTooMany : List TableLine → TableLine → Type 0
+AreTooMany lines (OfKind row) = 2 ^ 64 ≤ all_seeds (rows_in lines) + row.count
+AreTooMany lines (Last s) = 2 ^ 64 ≤ events_of (ends_in lines) + s.events
+
+-- Why a line is bad after these lines, a row for each reason that a line has.
+abbrev pub IsBadLine : List TableLine → List ℕ → Why → Type 0
+-- it is no line of a table
+IsBadLine lines line why.NotALine = (l : TableLine) → IsTableLine l → line_text l ≢ line
+-- the rows of its table count another number of seeds than it says
+IsBadLine lines line why.WrongCount = (s : Seeds) × (line_text (Last s) ≡ line) × (all_seeds (rows_in lines) ≢ count_of (ends_in lines) + s.count)
+-- numbers pass 64 bits
+IsBadLine lines line why.TooMany = (l : TableLine) × (line_text l ≡ line) × AreTooMany lines l
+-- the other reasons are no line's
+IsBadLine lines line _ = ⊥
+
+-- The line with this number, counted from 1, is the first bad one of an input.
+pub record IsBadAt (input : List ℕ) (number : ℕ) (reason : Why) : Type 0 where
+  pub lines : List TableLine
+  pub line : List ℕ
+  pub after : List (List ℕ)
+  pub there : trace_lines input ≡ map line_text lines ++ line ∷ after
+  pub number_is : number ≡ length lines + 1
+  pub bad : IsBadLine lines line reason
+
+-- the input stops in a table, or has none: the line is the one that would come next
+pub record StopsAt (input : List ℕ) (number : ℕ) : Type 0 where
+  pub lines : List TableLine
+  pub are : trace_lines input ≡ map line_text lines
+  pub number_is : number ≡ length lines + 1
+  pub open : (ends_in lines ≡ []) ⊎ (all_seeds (rows_in lines) ≢ count_of (ends_in lines))
+
+-- ---- ranges
+
+-- the order of ranges: by the first seed, and of as early ones by their lines
+abbrev pub seeds_cmp : Seeds → Seeds → Ordering
+seeds_cmp a b = ordering_then (nat_cmp a.from b.from) (nat_cmp a.line b.line)
+
+-- Each of these ranges begins where those before it end, and the first of them here.
+abbrev pub Follow : ℕ → List Seeds → Type 0
+Follow from ordered = (k : ℕ) (s : Seeds) → slice_get ordered k ≡ Some s → s.from ≡ from + count_of (take k ordered)
+
+-- The ranges are one range from here on, in some order.
+pub record AreJoined (from : ℕ) (ends : List Seeds) : Type 0 where
+  pub ordered : List Seeds
+  pub moved : IsPermutation ends ordered
+  pub follow : Follow from ordered
+
+-- a range begins before those before it end, or after
+abbrev pub IsApart : ℕ → Seeds → Why → Type 0
+IsApart end s why.CountedTwice = s.from < end
+IsApart end s why.Gap = end < s.from
+IsApart end s _ = ⊥
+
+-- The ranges are no one range: in their order, one of them begins before those before it end, or after.
+pub record AreApart (ends : List Seeds) (number : ℕ) (reason : Why) : Type 0 where
+  pub ordered : List Seeds
+  pub moved : IsPermutation ends ordered
+  pub sorted : IsSorted seeds_cmp ordered
+  pub first : Seeds
+  pub first_is : slice_get ordered 0 ≡ Some first
+  pub k : ℕ
+  pub apart : Seeds
+  pub there : slice_get ordered k ≡ Some apart
+  pub number_is : number ≡ apart.line
+  pub why : IsApart (first.from + count_of (take k ordered)) apart reason
+
+-- the ranges of an input's tables are no one range
+pub record HasApart (input : List ℕ) (number : ℕ) (reason : Why) : Type 0 where
+  pub lines : List TableLine
+  pub are : trace_lines input ≡ map line_text lines
+  pub apart : AreApart (ends_in lines) number reason
+
+-- ---- the sum
+
+-- The sum of the tables in an input: their rows by kind, the one range of their seeds, and how many events these have.
+pub record IsSumOf (input : List ℕ) (sum : Sum) : Type 0 where
+  pub lines : List TableLine
+  pub are : trace_lines input ≡ map line_text lines
+  pub tally : IsTallyOf (rows_in lines) sum.tally
+  pub joined : AreJoined sum.from (ends_in lines)
+  pub counted : sum.count ≡ all_seeds (rows_in lines)
+  pub count_is : sum.count ≡ count_of (ends_in lines)
+  pub events_is : sum.events ≡ events_of (ends_in lines)
+
+-- why the line with this number is refused, a row for each reason
+abbrev pub IsRefusedAt : List ℕ → ℕ → Why → Type 0
+IsRefusedAt input number why.Missing = StopsAt input number
+IsRefusedAt input number why.CountedTwice = HasApart input number why.CountedTwice
+IsRefusedAt input number why.Gap = HasApart input number why.Gap
+IsRefusedAt input number reason = IsBadAt input number reason
+
+-- Why an input has no sum; memory may be refused at any time.
+abbrev pub IsNoSum : List ℕ → Bad → Type 0
+IsNoSum input NoMemory = Unit
+IsNoSum input (AtLine number reason) = IsRefusedAt input number reason
