@@ -527,6 +527,20 @@ impl<A: Agent> Core<A> {
         self.plan.plan()
     }
 
+    /// The plan with its tables.
+    pub fn indexed(&self) -> &IndexedPlan
+        ensures { result.now ≡ self.now.plan }
+    {
+        &self.plan
+    }
+
+    /// The state after the events.
+    pub fn parts(&self) -> &Parts<A>
+        ensures { result.now ≡ state_after self.now.plan A.meaning self.now.journal }
+    {
+        &self.parts
+    }
+
     /// How many events there were. They are a run.
     pub fn journal_len(&self) -> usize
         ensures length { result ≡ length self.now.journal }
