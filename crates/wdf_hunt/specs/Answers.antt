@@ -13,11 +13,13 @@ use Rattle.wdf_table.specs.Lines.{table_text, table_status}
 use Rattle.wdf_tries.specs.Tries.{AreTries, events_of}
 use Rattle.wdf_shrink.specs.Stories.{IsStoryOfSeed}
 use Rattle.wdf_shrink.specs.Texts.{story_text}
+use Rattle.wdf_hunt.specs.Explained.{explaining}
+use Rattle.wdf_hunt.specs.Sums.{TellsSum}
 use Rattle.wdf_hunt.specs.declared.words.Form.{Form}
-use Rattle.wdf_hunt.specs.declared.words.Form.TheVariants.{Seeds, Shrink}
+use Rattle.wdf_hunt.specs.declared.words.Form.TheVariants.{Seeds, Shrink, Sum, Explain}
 
 abbrev pub usage_line : List ℕ
-usage_line = codes "usage: kmdfhunt seeds FROM COUNT | shrink N\n"
+usage_line = codes "usage: kmdfhunt seeds FROM COUNT | shrink N | sum | explain\n"
 
 -- The table of the endings of a plan's runs by the seeds of a range: a row for each kind, in order, the last line, and the
 -- status.
@@ -60,3 +62,5 @@ abbrev pub Tells : Option Form → Sourcing → Sinking → ℕ → Type 0
 Tells None s k answer = IsUnread s × Says k usage_line 2 answer
 Tells (Some (Seeds from count)) s k answer = TellsBy (seeking from count) s k answer
 Tells (Some (Shrink seed)) s k answer = TellsBy (shrinking seed) s k answer
+Tells (Some Sum) s k answer = TellsSum s k answer
+Tells (Some Explain) s k answer = TellsBy explaining s k answer

@@ -1,2 +1,4 @@
 pub mod Words
+pub mod Sums
+pub mod Explained
 pub mod Answers

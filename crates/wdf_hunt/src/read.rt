@@ -13,6 +13,19 @@ use wdf_parse::parse;
 use wdf_plan::resolve;
 use wdf_scene::Scene;
 
+/// Reads the whole input.
+///
+/// # Errors
+///
+/// [`Refusal`]: a read failed, the input is longer than it may be, or memory was refused.
+pub(crate) fn read_text<S: Source>(alloc: Global, source: &mut S) -> Result<Vec<u8>, Refusal>
+    ensures text { IfOk result (λ text. IsRead (sourcing (S.left source.old) (S.left source.new) (S.faults source.old) (S.faults source.new)) text.items) }
+    ensures cause { IfErr result (λ refusal. (part : List ℕ → List ℕ) → IsCause part (sourcing (S.left source.old) (S.left source.new) (S.faults source.old) (S.faults source.new)) refusal) }
+{
+    let text = read_whole(alloc, source)?;
+    Ok(text)
+}
+
 /// Reads the whole input, and its scene, which has a plan.
 ///
 /// # Errors

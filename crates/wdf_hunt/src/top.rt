@@ -6,8 +6,10 @@ ghost use Rattle.wdf_top.specs.Top.{TellsBy, sourcing};
 ghost use Rattle.wdf_hunt.specs.Answers.{Tells, seeking, shrinking};
 ghost use Rattle.wdf_hunt.specs.Words.{form_of_words};
 
+use crate::explain::explain;
 use crate::read::read_scene;
 use crate::story::tell_story;
+use crate::sum::add_tables;
 use crate::table::tell_table;
 use crate::words::{Form, form_of};
 use std::alloc::Global;
@@ -16,7 +18,7 @@ use wdf_io::{Sink, Source};
 use wdf_output::{say, tell};
 
 /// What is written for words of no form.
-const USAGE: &[u8] = b"usage: kmdfhunt seeds FROM COUNT | shrink N\n";
+const USAGE: &[u8] = b"usage: kmdfhunt seeds FROM COUNT | shrink N | sum | explain\n";
 
 /// The status of words of no form.
 const USAGE_STATUS: u8 = 2;
@@ -68,6 +70,12 @@ fn shrink<S: Source, K: Sink>(alloc: Global, seed: u64, source: &mut S, sink: &m
 /// `shrink N` reads a scenario, and looks for plain picks whose run ends in the kind of the seed's run, with no more events.
 /// It writes the scenario in canonical form with an `order` block of these picks. The status is 0.
 ///
+/// `sum` reads tables that `seeds` wrote for separate ranges, and writes the table of all their seeds, with the status that `seeds`
+/// would have. It refuses, with the status 6, the first line that is wrong.
+///
+/// `explain` reads a scenario, a line `trace` and a trace, as `kmdfsim replay` does, and writes the story of the trace's ending. The
+/// status is 0; where `replay` refuses the trace, its line is written, with its status.
+///
 /// Where `kmdfsim` refuses the input, its line is written, with its status. For other words there is a line of usage, with the
 /// status 2. Where the sink fails the status is 13.
 pub fn hunt<R: Threads + Sync, S: Source, K: Sink>(
@@ -86,6 +94,8 @@ pub fn hunt<R: Threads + Sync, S: Source, K: Sink>(
     match form_of(words) {
         Some(Form::Seeds { from, count }) => seek(rt, alloc, from, count, source, sink),
         Some(Form::Shrink { seed }) => shrink(alloc, seed, source, sink),
+        Some(Form::Sum) => add_tables(alloc, source, sink),
+        Some(Form::Explain) => explain(alloc, source, sink),
         None => say(sink, USAGE, USAGE_STATUS),
     }
 }

@@ -1,6 +1,6 @@
 //! The words of the program.
 ghost use Rattle.std.specs.Prelude.{◌≡◌, map, string_bytes};
-ghost use Rattle.wdf_hunt.specs.Words.{form_of_words, form_with_number, form_with_numbers, seeds_form};
+ghost use Rattle.wdf_hunt.specs.Words.{form_of_word, form_of_words, form_with_number, form_with_numbers, seeds_form};
 
 use wdf_top::number_word;
 
@@ -11,6 +11,10 @@ pub enum Form {
     Seeds { from: u64, count: u32 },
     /// Make the run of this seed plain, and write the scenario with the picks of the plain run.
     Shrink { seed: u64 },
+    /// Add tables.
+    Sum,
+    /// Write the story of a trace's ending.
+    Explain,
 }
 
 /// A range has fewer seeds than this.
@@ -25,6 +29,19 @@ fn seeds_form(from: u64, count: u64) -> Option<Form>
             from,
             count: count as u32,
         })
+    } else {
+        None
+    }
+}
+
+/// The form of one word alone.
+fn form_of_word(word: &str) -> Option<Form>
+    ensures { result ≡ form_of_word word.now }
+{
+    if word == "sum" {
+        Some(Form::Sum)
+    } else if word == "explain" {
+        Some(Form::Explain)
     } else {
         None
     }
@@ -55,6 +72,7 @@ pub(crate) fn form_of(words: &[String]) -> Option<Form>
     ensures { result ≡ form_of_words (map string_bytes words.now) }
 {
     match words {
+        [word] => form_of_word(word.as_str()),
         [word, number] => form_with_number(word.as_str(), number_word(number.as_bytes())?),
         [word, from, count] => form_with_numbers(
             word.as_str(),
