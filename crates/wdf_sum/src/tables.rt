@@ -26,6 +26,14 @@ pub struct Tables {
     pub events: u64,
 }
 
+/// Adds what the last line of a table says.
+fn push_end(ends: &mut Vec<Seeds>, end: Seeds) -> Result<(), Memory>
+    ensures { OnOk result (ends.new.items ≡ ends.old.items ++ end ∷ []) }
+{
+    ends.push(end)?;
+    Ok(())
+}
+
 impl Tables {
     /// No lines.
     fn new(alloc: Global) -> Tables
@@ -65,7 +73,7 @@ impl Tables {
         }
         match self.events.checked_add(end.events) {
             Some(events) => {
-                self.ends.push(end)?;
+                push_end(&mut self.ends, end)?;
                 self.count = self.seeds;
                 self.events = events;
                 Ok(())
