@@ -1,59 +1,19 @@
--- How an object is at the end of a run: who has it, and what is under way with it. (own)
+-- How an object is at the end of a run, in words: who has it, and what is under way with it. (own)
 use Rattle.std.specs.Prelude.{if◌then◌else◌, ℕ, ◌==◌, List, [], ◌++◌, codes, decimal, Option, Some, None}
 use Rattle.wdf_base.specs.declared.plan.Plan.{Plan}
 use Rattle.wdf_base.specs.declared.ids.Handle.{Handle}
-use Rattle.wdf_base.specs.declared.object.Kind.{Kind}
-use Rattle.wdf_base.specs.declared.object.Kind.TheVariants as kind
 use Rattle.wdf_base.specs.declared.object.Life.{Life}
 use Rattle.wdf_base.specs.declared.object.Life.TheVariants as life
 use Rattle.wdf_base.specs.declared.object.Mark.{Mark}
 use Rattle.wdf_base.specs.declared.object.Mark.TheVariants as mark
-use Rattle.wdf_base.specs.declared.object.Place.{Place}
-use Rattle.wdf_base.specs.declared.object.Place.TheVariants as place
 use Rattle.wdf_base.specs.declared.event.Event.{Event}
 use Rattle.wdf_base.specs.Words.{status_word}
 use Rattle.wdf_lines.specs.Lines.{object_text}
-use Rattle.wdf_model.specs.State.{State, handle_in}
-use Rattle.wdf_model.specs.parts.Locks.{holder, object_lock}
-use Rattle.wdf_model.specs.parts.Requests.{mark_of, place_of}
-use Rattle.wdf_model.specs.parts.Tree.{kind_of, life_of, references_of}
-use Rattle.wdf_explain.specs.declared.standing.Having.{Having}
-use Rattle.wdf_explain.specs.declared.standing.Having.TheVariants as having
-use Rattle.wdf_explain.specs.declared.standing.Standing.{Standing}
+use Rattle.wdf_explain.specs.declared.told.Having.{Having}
+use Rattle.wdf_explain.specs.declared.told.Having.TheVariants as having
+use Rattle.wdf_explain.specs.declared.told.Standing.{Standing}
 use Rattle.wdf_explain.specs.declared.asked.Asked.TheVariants.{Moves, Takes}
 use Rattle.wdf_explain.specs.About.{last_number, numbers_of}
-
--- ---- of a state
-
--- who has a request at this place
-abbrev pub having_at : {A : Type 0} → Plan → State A → Place → Having
-having_at plan S (place.Queued q) = having.Queued (handle_in plan S q.0)
-having_at plan S (place.Returning q) = having.Returning (handle_in plan S q.0)
-having_at plan S (place.Closing s) = having.Closing s
-having_at plan S place.Owned = having.Driver
-having_at plan S (place.Sent t) = having.Target (handle_in plan S t.0)
-having_at plan S place.Done = having.Done
-
--- who has an object of this kind: a request is at a place, a lock is held by a frame or by none
-abbrev pub having_of : {A : Type 0} → Plan → State A → ℕ → Kind → Having
-having_of plan S o kind.Request = having_at plan S (place_of S.requests o)
-having_of plan S o kind.Made = having_at plan S (place_of S.requests o)
-having_of plan S o kind.SpinLock = having.Lock (holder S.locks (object_lock o))
-having_of plan S o kind.WaitLock = having.Lock (holder S.locks (object_lock o))
-having_of plan S o kind.Interrupt = having.Lock (holder S.locks (object_lock o))
-having_of plan S o _ = having.Nobody
-
--- How an object is in a state.
-abbrev pub standing_in : {A : Type 0} → Plan → State A → Handle → Standing
-standing_in plan S h = record {
-  object = h;
-  having = having_of plan S h.id.0 (kind_of S.tree h.id.0);
-  mark = mark_of S.requests h.id.0;
-  references = references_of S.tree h.id.0;
-  life = life_of S.tree h.id.0;
-}
-
--- ---- in words
 
 -- since which event, where one is known
 abbrev pub since_text : Option ℕ → List ℕ

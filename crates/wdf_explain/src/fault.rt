@@ -1,23 +1,17 @@
 //! The story of a fault.
 ghost use Rattle.std.specs.Prelude.{◌≡◌, ◌-◌, ◌++◌, OnOk, codes, length, slice_get};
+ghost use Rattle.std.specs.Option.{option_copied};
 ghost use Rattle.wdf_lines.specs.Lines.{object_text};
-ghost use Rattle.wdf_model.specs.parts.Cpus.{frame_of, top};
-ghost use Rattle.wdf_model.specs.rules.Script.{intent_of};
-ghost use Rattle.wdf_explain.specs.About.{event_lines, last_of, numbers_of};
-ghost use Rattle.wdf_explain.specs.Stories.{argument_story, cpu_story, doing_text, fault_story, fault_text, object_story, objects_story, top_story};
+ghost use Rattle.wdf_explain.specs.Stories.{cpu_story, doing_story, doing_text, fault_story, fault_text, is_call, object_story, objects_story};
 
 use crate::asked::Asked;
 use crate::numbers::push_last;
 use crate::rules::rule_of;
-use crate::standing::{push_standing, standing_in};
-use crate::words::{push_counted, push_cpu, push_intent, push_object, push_with};
+use crate::standing::push_standing;
+use crate::told::{Doing, Standing};
+use crate::words::{push_counted, push_cpu, push_intent, push_with};
 use std::alloc::Global;
-use wdf_base::{
-    Agent, Arg, Cpu, Event, Fault, Frame, FrameId, Handle, Intent, Memory, Plan, Value,
-};
-use wdf_parts::Parts;
-use wdf_plan_index::IndexedPlan;
-use wdf_script::next;
+use wdf_base::{Cpu, Event, Fault, Handle, Intent, Memory, Plan};
 use wdf_writing::Text;
 
 /// Adds the heading of the events about an object.
@@ -29,36 +23,33 @@ fn push_heading(out: &mut Text, plan: &Plan, object: Handle) -> Result<(), Memor
 }
 
 /// Adds how an object is at the end of a run, and the last events about it.
-fn push_object_story<A: Agent>(
+fn push_object_story(
     alloc: Global,
     out: &mut Text,
-    plan: &IndexedPlan,
+    plan: &Plan,
     events: &[Event],
-    parts: &Parts<A>,
-    object: Handle,
+    standing: &Standing,
 ) -> Result<(), Memory>
-    ensures { OnOk result (out.new ≡ out.old ++ object_story plan.now events.now parts.now object) }
+    ensures { OnOk result (out.new ≡ out.old ++ object_story plan.now events.now (Some standing.now)) }
 {
-    let standing = standing_in(parts, plan, object);
-    push_standing(alloc, out, plan.plan(), events, &standing)?;
-    push_heading(out, plan.plan(), object)?;
-    push_last(alloc, out, plan.plan(), events, Asked::About(object.id))
+    push_standing(alloc, out, plan, events, standing)?;
+    push_heading(out, plan, standing.object)?;
+    push_last(alloc, out, plan, events, Asked::About(standing.object.id))
 }
 
-/// Adds the same of an argument, where it is an object.
-fn push_argument_story<A: Agent>(
+/// Adds the same where there is an object.
+fn push_if_any(
     alloc: Global,
     out: &mut Text,
-    plan: &IndexedPlan,
+    plan: &Plan,
     events: &[Event],
-    parts: &Parts<A>,
-    argument: Arg,
+    standing: &Option<Standing>,
 ) -> Result<(), Memory>
-    ensures { OnOk result (out.new ≡ out.old ++ argument_story plan.now events.now parts.now argument) }
+    ensures { OnOk result (out.new ≡ out.old ++ object_story plan.now events.now standing.now) }
 {
-    match argument {
-        Arg::Val(Value::Obj(object)) => push_object_story(alloc, out, plan, events, parts, object),
-        _ => Ok(()),
+    match standing {
+        Some(standing) => push_object_story(alloc, out, plan, events, standing),
+        None => Ok(()),
     }
 }
 
@@ -78,67 +69,62 @@ fn push_cpu_story(
     push_last(alloc, out, plan, events, Asked::OnCpu(cpu))
 }
 
+/// Whether a frame is about to make a call.
+fn is_call(intent: &Intent) -> bool
+    ensures { result ≡ is_call intent.now }
+{
+    matches!(intent, Intent::Do(_))
+}
+
 /// Adds what is told of what a frame is about to do: of a call its objects, of anything else the processor.
-fn push_objects_story<A: Agent>(
+fn push_objects(
     alloc: Global,
     out: &mut Text,
-    plan: &IndexedPlan,
+    plan: &Plan,
     events: &[Event],
-    parts: &Parts<A>,
-    cpu: Cpu,
-    intent: &Intent,
+    doing: &Doing,
 ) -> Result<(), Memory>
-    ensures { OnOk result (out.new ≡ out.old ++ objects_story plan.now events.now parts.now cpu intent.now) }
+    ensures { OnOk result (out.new ≡ out.old ++ objects_story plan.now events.now doing.now) }
 {
-    match *intent {
-        Intent::Do(call) => {
-            push_argument_story(alloc, out, plan, events, parts, call.a)?;
-            push_argument_story(alloc, out, plan, events, parts, call.b)?;
-            push_argument_story(alloc, out, plan, events, parts, call.c)
-        }
-        _ => push_cpu_story(alloc, out, plan.plan(), events, cpu),
+    if !is_call(&doing.intent) {
+        return push_cpu_story(alloc, out, plan, events, doing.cpu);
     }
+    push_if_any(alloc, out, plan, events, &doing.first)?;
+    push_if_any(alloc, out, plan, events, &doing.second)?;
+    push_if_any(alloc, out, plan, events, &doing.third)
 }
 
 /// Adds the callback of a frame, and what it was about to do.
-fn push_doing(
-    out: &mut Text,
-    plan: &Plan,
-    cpu: Cpu,
-    number: FrameId,
-    frame: &Frame,
-    intent: &Intent,
-) -> Result<(), Memory>
-    ensures { OnOk result (out.new ≡ out.old ++ doing_text plan.now cpu number.0 frame.now intent.now) }
+fn push_doing(out: &mut Text, plan: &Plan, doing: &Doing) -> Result<(), Memory>
+    ensures { OnOk result (out.new ≡ out.old ++ doing_text plan.now doing.now) }
 {
-    out.push(frame.callback.word().as_bytes())?;
-    push_with(out, plan, b" of ", frame.object)?;
+    out.push(doing.callback.word().as_bytes())?;
+    push_with(out, plan, b" of ", doing.object)?;
     out.push(b" began on ")?;
-    push_cpu(out, cpu)?;
-    push_counted(out, b" with event ", number.0 as usize)?;
+    push_cpu(out, doing.cpu)?;
+    push_counted(out, b" with event ", doing.number.0 as usize)?;
     out.push(b". It was about to ")?;
-    push_intent(out, plan, intent)?;
+    push_intent(out, plan, &doing.intent)?;
     out.push(b".\n")
 }
 
-/// Adds what the top frame of a processor was about to do.
-fn push_top_story<A: Agent>(
+/// Adds what a frame was about to do, and how the objects are that it names.
+fn push_doing_story(
     alloc: Global,
     out: &mut Text,
-    plan: &IndexedPlan,
+    plan: &Plan,
     events: &[Event],
-    parts: &Parts<A>,
-    cpu: Cpu,
+    doing: Option<&Doing>,
 ) -> Result<(), Memory>
-    ensures { OnOk result (out.new ≡ out.old ++ top_story plan.now events.now parts.now cpu (top parts.now.cpus cpu.0)) }
+    ensures { OnOk result (out.new ≡ out.old ++ doing_story plan.now events.now (option_copied doing)) }
 {
-    let Some(number) = parts.cpus().top(cpu) else {
-        return Ok(());
-    };
-    let frame = parts.cpus().frame(number);
-    let intent = next(plan.plan(), frame);
-    push_doing(out, plan.plan(), cpu, number, frame, &intent)?;
-    push_objects_story(alloc, out, plan, events, parts, cpu, &intent)
+    match doing {
+        Some(doing) => {
+            push_doing(out, plan, doing)?;
+            push_objects(alloc, out, plan, events, doing)
+        }
+        None => Ok(()),
+    }
 }
 
 /// Adds how many events there were, and a fault with its line and its rule.
@@ -155,19 +141,19 @@ fn push_fault(out: &mut Text, events: usize, fault: Fault, line: u32) -> Result<
 }
 
 /// Adds the story of the fault that is the last event of a run.
-pub(crate) fn push_fault_story<A: Agent>(
+pub(crate) fn push_fault_story(
     alloc: Global,
     out: &mut Text,
-    plan: &IndexedPlan,
+    plan: &Plan,
     events: &[Event],
-    parts: &Parts<A>,
+    doing: Option<&Doing>,
 ) -> Result<(), Memory>
-    ensures { OnOk result (out.new ≡ out.old ++ fault_story plan.now events.now parts.now (slice_get events.now (length events.now - 1))) }
+    ensures { OnOk result (out.new ≡ out.old ++ fault_story plan.now events.now (option_copied doing) (slice_get events.now (length events.now - 1))) }
 {
     match events.last() {
-        Some(Event::Fault { cpu, fault, line }) => {
+        Some(Event::Fault { fault, line, .. }) => {
             push_fault(out, events.len(), *fault, *line)?;
-            push_top_story(alloc, out, plan, events, parts, *cpu)
+            push_doing_story(alloc, out, plan, events, doing)
         }
         _ => Ok(()),
     }

@@ -3,7 +3,8 @@
 //!
 //! # Choices
 //!
-//! - **From where is it told?** From the run's events, its state at the end and its wait list. So it's a function of the run.
+//! - **From where is it told?** From the run's events, its wait list, and how the objects are at its end that the faulting call
+//!   names. So it is a function of the run; `wdf_explain_run` reads these off a core.
 //! - **Which object has a story?** Each that the call names: a stale handle may be any of its arguments. Where the fault is of no
 //!   call, the last events on its processor are told.
 //! - **How many events are shown?** The last six about an object.
@@ -20,10 +21,11 @@ mod rules;
 mod standing;
 mod story;
 mod stuck;
+mod told;
 mod turns;
 mod words;
 
 pub use asked::Asked;
-pub use standing::{Having, Standing};
 pub use story::story_of;
+pub use told::{Doing, Having, Standing, Told};
 pub use turns::Turn;

@@ -1,108 +1,16 @@
-//! How an object is at the end of a run.
+//! How an object is at the end of a run, in words.
 ghost use Rattle.std.specs.Prelude.{◌≡◌, ◌++◌, OnOk, codes};
 ghost use Rattle.wdf_base.specs.Words.{status_word};
 ghost use Rattle.wdf_lines.specs.Lines.{object_text};
-ghost use Rattle.wdf_model.specs.parts.Locks.{holder, object_lock};
-ghost use Rattle.wdf_explain.specs.Standings.{having_at, having_of, having_text, holder_text, life_text, mark_text, moved_at, references_text, since_text, standing_in, standing_text, taken_at};
+ghost use Rattle.wdf_explain.specs.Standings.{having_text, holder_text, life_text, mark_text, moved_at, references_text, since_text, standing_text, taken_at};
 
 use crate::asked::Asked;
 use crate::numbers::last_number;
+use crate::told::{Having, Standing};
 use crate::words::{push_counted, push_object, push_with};
 use std::alloc::Global;
-use wdf_base::{
-    Agent, Event, Handle, Kind, Life, LockRef, Mark, Memory, ObjectId, Place, Plan, Status,
-};
-use wdf_parts::Parts;
-use wdf_plan_index::IndexedPlan;
+use wdf_base::{Event, Handle, Life, Mark, Memory, Plan, Status};
 use wdf_writing::Text;
-
-/// Who has an object.
-#[derive(Clone, Copy)]
-pub enum Having {
-    /// The driver has the request.
-    Driver,
-    /// The request waits in this queue.
-    Queued(Handle),
-    /// The request was cancelled in this queue, and goes back to the driver.
-    Returning(Handle),
-    /// The framework is about to complete the request with this status.
-    Closing(Status),
-    /// The request is at this target.
-    Target(Handle),
-    /// The request is completed.
-    Done,
-    /// The frame with this number holds the object's lock; or none does.
-    Lock(Option<u32>),
-    /// It is an object that nobody has.
-    Nobody,
-}
-
-/// How an object is.
-#[derive(Clone, Copy)]
-pub struct Standing {
-    pub object: Handle,
-    pub having: Having,
-    /// How far the cancel of a request has come.
-    pub mark: Mark,
-    /// How many references the driver holds to it.
-    pub references: u32,
-    pub life: Life,
-}
-
-/// Who has a request at this place.
-fn having_at<A: Agent>(parts: &Parts<A>, plan: &IndexedPlan, place: Place) -> Having
-    ensures { result ≡ having_at plan.now parts.now place }
-{
-    match place {
-        Place::Queued(queue) => Having::Queued(parts.handle_in(plan, queue)),
-        Place::Returning(queue) => Having::Returning(parts.handle_in(plan, queue)),
-        Place::Closing(status) => Having::Closing(status),
-        Place::Owned => Having::Driver,
-        Place::Sent(target) => Having::Target(parts.handle_in(plan, target)),
-        Place::Done => Having::Done,
-    }
-}
-
-/// The frame that holds the lock of an object.
-fn lock_holder<A: Agent>(parts: &Parts<A>, object: ObjectId) -> Option<u32>
-    ensures { result ≡ holder parts.now.locks (object_lock object.0) }
-{
-    parts
-        .locks()
-        .holder(LockRef::Object(object))
-        .map(|frame| frame.0)
-}
-
-/// Who has an object.
-fn having_of<A: Agent>(parts: &Parts<A>, plan: &IndexedPlan, object: ObjectId, kind: Kind) -> Having
-    ensures { result ≡ having_of plan.now parts.now object.0 kind }
-{
-    match kind {
-        Kind::Request | Kind::Made => having_at(parts, plan, parts.requests().place(object)),
-        Kind::SpinLock | Kind::WaitLock | Kind::Interrupt => {
-            Having::Lock(lock_holder(parts, object))
-        }
-        _ => Having::Nobody,
-    }
-}
-
-/// How an object is.
-pub(crate) fn standing_in<A: Agent>(
-    parts: &Parts<A>,
-    plan: &IndexedPlan,
-    object: Handle,
-) -> Standing
-    ensures { result ≡ standing_in plan.now parts.now object }
-{
-    let kind = parts.tree().kind(object.id);
-    Standing {
-        object,
-        having: having_of(parts, plan, object.id, kind),
-        mark: parts.requests().info(object.id).mark,
-        references: parts.tree().references(object.id),
-        life: parts.tree().life(object.id),
-    }
-}
 
 /// Adds since when it is so, where that is known, and ends the sentence.
 fn push_since(out: &mut Text, number: Option<usize>) -> Result<(), Memory>

@@ -1,38 +1,15 @@
 //! The story of a run's ending.
-ghost use Rattle.std.specs.Prelude.{◌≡◌, ◌++◌, IfOk, OnOk, codes, decimal, length};
-ghost use Rattle.wdf_model.specs.rules.Ready.{ending_of, state_after};
-ghost use Rattle.wdf_model.specs.rules.Waits.{wait_list};
-ghost use Rattle.wdf_explain.specs.Stories.{story, story_of};
+ghost use Rattle.std.specs.Prelude.{◌≡◌, ◌++◌, IfOk, OnOk, decimal};
+ghost use Rattle.std.specs.Option.{option_copied};
+ghost use Rattle.wdf_explain.specs.Stories.{story_of};
 
 use crate::fault::push_fault_story;
 use crate::stuck::push_stuck_story;
+use crate::told::Told;
 use crate::words::push_counted;
 use std::alloc::Global;
-use wdf_base::{Agent, Ending, Event, Memory, WaitLine};
-use wdf_core::Core;
+use wdf_base::{Ending, Memory, Plan};
 use wdf_writing::Text;
-
-/// The events of a run.
-fn events_of<A: Agent>(alloc: Global, core: &Core<A>) -> Result<Vec<Event>, Memory>
-    ensures { IfOk result (λ events. events.items ≡ core.now.journal) }
-{
-    let mut events = Vec::new(alloc);
-    for k in 0..core.journal_len() {
-        events.push(core.journal_at(k))?;
-    }
-    Ok(events)
-}
-
-/// The wait list of a run.
-fn waits_of<A: Agent>(alloc: Global, core: &Core<A>) -> Result<Vec<WaitLine>, Memory>
-    ensures { IfOk result (λ waits. waits.items ≡ wait_list core.now.plan A.meaning core.now.journal) }
-{
-    let mut waits = Vec::new(alloc);
-    for k in 0..core.wait_len() {
-        waits.push(core.wait_at(k))?;
-    }
-    Ok(waits)
-}
 
 /// Adds bytes, a number and bytes.
 fn push_sentence(
@@ -47,17 +24,12 @@ fn push_sentence(
     out.push(back)
 }
 
-/// Adds the story of the ending of the run on a core.
-fn push_story<A: Agent>(
-    alloc: Global,
-    out: &mut Text,
-    core: &Core<A>,
-    events: &[Event],
-    waits: &[WaitLine],
-) -> Result<(), Memory>
-    ensures { OnOk result (out.new ≡ out.old ++ story_of core.now.plan events.now (state_after core.now.plan A.meaning core.now.journal) waits.now (ending_of core.now.plan A.meaning core.now.journal)) }
+/// Adds the story of a run's ending.
+fn push_story(alloc: Global, out: &mut Text, plan: &Plan, told: &Told<'_>) -> Result<(), Memory>
+    ensures { OnOk result (out.new ≡ out.old ++ story_of plan.now told.now.events.now (option_copied told.now.doing) told.now.waits.now told.now.ending) }
 {
-    match core.ending() {
+    let events = told.events;
+    match told.ending {
         Ending::Running => Ok(()),
         Ending::Finished => push_sentence(
             out,
@@ -71,22 +43,20 @@ fn push_story<A: Agent>(
             events.len(),
             b" events, and might go on.\n",
         ),
-        Ending::Fault(_) => push_fault_story(alloc, out, core.indexed(), events, core.parts()),
-        Ending::Stuck => push_stuck_story(alloc, out, core.plan(), events, waits),
+        Ending::Fault(_) => push_fault_story(alloc, out, plan, events, told.doing),
+        Ending::Stuck => push_stuck_story(alloc, out, plan, events, told.waits),
     }
 }
 
-/// The story of the ending of the run on a core.
+/// The story of a run's ending.
 ///
 /// # Errors
 ///
 /// [`Memory`] where memory was refused.
-pub fn story_of<A: Agent>(alloc: Global, core: &Core<A>) -> Result<Text, Memory>
-    ensures { IfOk result (λ text. text ≡ story core.now.plan A.meaning core.now.journal) }
+pub fn story_of(alloc: Global, plan: &Plan, told: &Told<'_>) -> Result<Text, Memory>
+    ensures { IfOk result (λ text. text ≡ story_of plan.now told.now.events.now (option_copied told.now.doing) told.now.waits.now told.now.ending) }
 {
-    let events = events_of(alloc, core)?;
-    let waits = waits_of(alloc, core)?;
     let mut out = Text::new(alloc);
-    push_story(alloc, &mut out, core, events.as_slice(), waits.as_slice())?;
+    push_story(alloc, &mut out, plan, told)?;
     Ok(out)
 }

@@ -9,7 +9,7 @@ use Rattle.wdf_output.specs.Said.{Sinking, Says}
 use Rattle.wdf_replay.specs.Verdicts.{IsAccepted}
 use Rattle.wdf_split.specs.Inputs.{scenario_in, trace_in}
 use Rattle.wdf_top.specs.Answers.{Answering, IsRefusedWith}
-use Rattle.wdf_explain.specs.Stories.{story}
+use Rattle.wdf_explain_run.specs.Endings.{story}
 
 -- The trace is accepted: it is the text of a run of the plan that has ended, and this is the story of that run.
 abbrev pub IsExplainedWith : Plan → List ℕ → List ℕ → ℕ → Type 0

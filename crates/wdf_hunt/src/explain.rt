@@ -2,7 +2,7 @@
 ghost use Rattle.std.specs.Prelude.{◌≡◌, ◌≤◌, [], IfErr, IfOk, length};
 ghost use Rattle.wdf_base.specs.Resolved.{IsResolved};
 ghost use Rattle.wdf_dev.specs.Agents.{agent_meaning};
-ghost use Rattle.wdf_explain.specs.Stories.{story};
+ghost use Rattle.wdf_explain_run.specs.Endings.{story};
 ghost use Rattle.wdf_io.specs.Outside.{EndsRefused};
 ghost use Rattle.wdf_output.specs.Said.{sinking};
 ghost use Rattle.wdf_top.specs.Answers.{HasPlan, refused_line, why_word};
@@ -15,7 +15,7 @@ use std::alloc::Global;
 use wdf_base::Plan;
 use wdf_core::Core;
 use wdf_dev::AnyAgent;
-use wdf_explain::story_of;
+use wdf_explain_run::story_of_run;
 use wdf_io::{Sink, Source};
 use wdf_lines::Message;
 use wdf_output::{Refusal, say, tell};
@@ -61,7 +61,7 @@ fn tell_ending<K: Sink>(alloc: Global, core: &Core<AnyAgent>, sink: &mut K) -> u
         result }
     ensures not_again { result ≡ 13 → EndsRefused K.refused K.faults sink.old sink.new }
 {
-    match story_of(alloc, core) {
+    match story_of_run(alloc, core) {
         Ok(text) => say(sink, text.bytes(), 0),
         Err(memory) => tell(sink, Refusal::from(memory)),
     }
