@@ -1,6 +1,6 @@
 //! The numbers of the events of a run that are looked for, and their lines.
 ghost use Rattle.std.specs.Prelude.{◌≡◌, ◌-◌, ◌++◌, IfOk, OnOk, length, slice_get};
-ghost use Rattle.wdf_explain.specs.About.{event_if_any, event_lines, last_number, last_of, numbers_of};
+ghost use Rattle.wdf_explain.specs.About.{event_if_any, event_lines, last_number, last_of, number_if, numbers_of};
 
 use crate::asked::Asked;
 use std::alloc::Global;
@@ -10,6 +10,16 @@ use wdf_writing::Text;
 
 /// How many events are shown.
 const SHOWN: usize = 6;
+
+/// Adds a number, where its event is looked for.
+fn push_if(numbers: &mut Vec<usize>, is_asked: bool, number: usize) -> Result<(), Memory>
+    ensures { OnOk result (numbers.new.items ≡ numbers.old.items ++ number_if is_asked number) }
+{
+    if is_asked {
+        numbers.push(number)?;
+    }
+    Ok(())
+}
 
 /// The numbers of the events that are looked for, in their order.
 pub(crate) fn numbers_of(
@@ -21,9 +31,7 @@ pub(crate) fn numbers_of(
 {
     let mut numbers = Vec::new(alloc);
     for k in 0..events.len() {
-        if asked.is_for(&events[k]) {
-            numbers.push(k + 1)?;
-        }
+        push_if(&mut numbers, asked.is_for(&events[k]), k + 1)?;
     }
     Ok(numbers)
 }
