@@ -36,6 +36,11 @@ abbrev pub line_text : TableLine → List ℕ
 line_text (OfKind row) = row_text row
 line_text (Last s) = total_text s.from s.count s.events
 
+-- a line of a table that was read from this text, as the line with this number
+abbrev pub IsLineOf : List ℕ → ℕ → TableLine → Type 0
+IsLineOf text number (OfKind row) = row_text row ≡ text
+IsLineOf text number (Last s) = IsTableEnd s × (total_text s.from s.count s.events ≡ text) × (s.line ≡ number)
+
 -- the line of a row, without its line feed, as it is read
 abbrev pub row_words : ℕ → ℕ → ℕ → List ℕ → List ℕ
 row_words count seed events kind =

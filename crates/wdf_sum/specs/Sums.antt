@@ -5,6 +5,7 @@ use Rattle.std.specs.List.Sorted.{IsPermutation, IsSorted}
 use Rattle.std.specs.declared.cmp.Ordering.{Ordering}
 use Rattle.std.specs.Ordering.{nat_cmp, ordering_then}
 use Rattle.wdf_run_text.specs.Lines.{trace_lines}
+use Rattle.wdf_table.specs.declared.row.Row.{Row}
 use Rattle.wdf_table.specs.Tables.{IsTallyOf, all_seeds}
 use Rattle.wdf_sum.specs.declared.line.Seeds.{Seeds}
 use Rattle.wdf_sum.specs.declared.line.TableLine.{TableLine}
@@ -48,6 +49,24 @@ IsBadLine lines line why.TooMany = (l : TableLine) × (line_text l ≡ line) × 
 -- the other reasons are no line's
 IsBadLine lines line _ = ⊥
 
+-- why the next line, with this number, isn't taken; memory may be refused at any time
+abbrev pub IsBadNext : List TableLine → List ℕ → ℕ → Bad → Type 0
+IsBadNext lines line number NoMemory = Unit
+IsBadNext lines line number (AtLine n reason) = (n ≡ number) × IsBadLine lines line reason
+
+-- the same of a row, beside what the lines before it come to
+abbrev pub IsBadRow : Tables → Row → ℕ → Bad → Type 0
+IsBadRow tables row number NoMemory = Unit
+IsBadRow tables row number (AtLine n why.TooMany) = (n ≡ number) × (2 ^ 64 ≤ tables.seeds + row.count)
+IsBadRow tables row number (AtLine n _) = ⊥
+
+-- the same of the last line of a table
+abbrev pub IsBadEnd : Tables → Seeds → Bad → Type 0
+IsBadEnd tables s NoMemory = Unit
+IsBadEnd tables s (AtLine n why.WrongCount) = (n ≡ s.line) × (tables.seeds ≢ tables.count + s.count)
+IsBadEnd tables s (AtLine n why.TooMany) = (n ≡ s.line) × (2 ^ 64 ≤ tables.events + s.events)
+IsBadEnd tables s (AtLine n _) = ⊥
+
 -- The line with this number, counted from 1, is the first bad one of an input.
 pub record IsBadAt (input : List ℕ) (number : ℕ) (reason : Why) : Type 0 where
   pub lines : List TableLine
@@ -63,6 +82,11 @@ pub record StopsAt (input : List ℕ) (number : ℕ) : Type 0 where
   pub are : trace_lines input ≡ map line_text lines
   pub number_is : number ≡ length lines + 1
   pub open : (ends_in lines ≡ []) ⊎ (all_seeds (rows_in lines) ≢ count_of (ends_in lines))
+
+-- the whole input is lines of tables, which come to this, and the line after them has this number
+abbrev pub IsReadWhole : List ℕ → Tables → ℕ → Type 0
+IsReadWhole input tables number =
+    (lines : List TableLine) × (trace_lines input ≡ map line_text lines) × (number ≡ length lines + 1) × IsReadAs lines tables
 
 -- ---- ranges
 

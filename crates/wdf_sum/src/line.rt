@@ -3,7 +3,8 @@ ghost use Rattle.std.specs.Prelude.{◌≡◌, ◌≢◌, ◌+◌, ◌-◌, ◌=
 ghost use Rattle.wdf_table.specs.declared.row.Row.{Row};
 ghost use Rattle.wdf_sum.specs.declared.line.Seeds.{Seeds};
 ghost use Rattle.wdf_sum.specs.declared.line.TableLine.{TableLine};
-ghost use Rattle.wdf_sum.specs.Lines.{IsTableEnd, IsTableLine, end_words, line_text, row_words};
+ghost use Rattle.wdf_run_text.specs.Lines.{fed};
+ghost use Rattle.wdf_sum.specs.Lines.{IsLineOf, IsTableEnd, IsTableLine, IsTableRow, end_words, line_text, row_words};
 
 use crate::digits::{after, number_before};
 use std::alloc::Global;
@@ -147,6 +148,8 @@ fn row_in(alloc: Global, text: &[u8]) -> Result<Option<Row>, Memory>
 
 /// The line of a table that this text is, where it is one.
 fn line_of(alloc: Global, text: &[u8], line: usize) -> Result<Option<TableLine>, Memory>
+    ensures found { IfOk result (λ it. IfSome it (IsLineOf (fed text.now) line)) }
+    ensures none { IfOk result (λ it. IfNone it ((l : TableLine) → IsTableLine l → line_text l ≢ fed text.now)) }
 {
     match end_of(text, line) {
         Some(seeds) => Ok(Some(TableLine::Last(seeds))),
@@ -158,7 +161,13 @@ fn line_of(alloc: Global, text: &[u8], line: usize) -> Result<Option<TableLine>,
 }
 
 /// The line of a table that this is, with its line feed, where it is one. Its number is this one.
-pub(crate) fn read_line(alloc: Global, line: &[u8], number: usize) -> Result<Option<TableLine>, Memory>
+pub(crate) fn read_line(
+    alloc: Global,
+    line: &[u8],
+    number: usize,
+) -> Result<Option<TableLine>, Memory>
+    ensures found { IfOk result (λ it. IfSome it (IsLineOf line.now number)) }
+    ensures none { IfOk result (λ it. IfNone it ((l : TableLine) → IsTableLine l → line_text l ≢ line.now)) }
 {
     match text_of_line(line) {
         Some(text) => line_of(alloc, text, number),

@@ -1,8 +1,9 @@
 //! The lines of tables, taken one after the other.
-ghost use Rattle.std.specs.Prelude.{◌≡◌, ◌+◌, ◌∷◌, ◌++◌, [], ℕ, List, IfOk, IfErr, OnOk, OnErr};
+ghost use Rattle.std.specs.Prelude.{◌≡◌, ◌≤◌, ◌∷◌, ◌++◌, [], List, IfErr, IfOk, OnOk};
 ghost use Rattle.wdf_sum.specs.declared.line.TableLine.{TableLine};
-ghost use Rattle.wdf_sum.specs.Lines.{line_text};
-ghost use Rattle.wdf_sum.specs.Sums.{IsBadAt, IsBadLine, IsReadAs, IsReadTo, IsRowTaken};
+ghost use Rattle.wdf_table.specs.Tables.{all_seeds};
+ghost use Rattle.wdf_sum.specs.Lines.{IsTableEnd, line_text};
+ghost use Rattle.wdf_sum.specs.Sums.{IsBadEnd, IsBadNext, IsBadRow, IsNoSum, IsReadAs, IsReadWhole};
 
 use crate::line::{Seeds, TableLine, read_line};
 use crate::refused::{Bad, Why};
@@ -49,7 +50,11 @@ impl Tables {
     }
 
     /// Takes the row of a kind.
-    fn take_row(&mut self, row: Row, line: usize) -> Result<(), Bad> {
+    fn take_row(&mut self, row: Row, line: usize) -> Result<(), Bad>
+        requires { all_seeds self.old.tally ≡ self.old.seeds }
+        ensures taken { OnOk result ((lines : List TableLine) → IsReadAs lines self.old → IsReadAs (lines ++ TableLine.OfKind row ∷ []) self.new) }
+        ensures bad { IfErr result (IsBadRow self.old row line) }
+    {
         match self.seeds.checked_add(row.count) {
             Some(seeds) => {
                 self.tally.add(row)?;
@@ -64,7 +69,11 @@ impl Tables {
     }
 
     /// Takes the last line of a table.
-    fn take_end(&mut self, end: Seeds) -> Result<(), Bad> {
+    fn take_end(&mut self, end: Seeds) -> Result<(), Bad>
+        requires { self.old.count ≤ self.old.seeds }
+        ensures taken { OnOk result ((lines : List TableLine) → IsTableEnd end → IsReadAs lines self.old → IsReadAs (lines ++ TableLine.Last end ∷ []) self.new) }
+        ensures bad { IfErr result (IsBadEnd self.old end) }
+    {
         if self.seeds - self.count != end.count {
             return Err(Bad::AtLine {
                 line: end.line,
@@ -86,7 +95,12 @@ impl Tables {
     }
 
     /// Takes the next line.
-    fn take_line(&mut self, alloc: Global, line: &[u8], number: usize) -> Result<(), Bad> {
+    fn take_line(&mut self, alloc: Global, line: &[u8], number: usize) -> Result<(), Bad>
+        requires seeds { all_seeds self.old.tally ≡ self.old.seeds }
+        requires not_more { self.old.count ≤ self.old.seeds }
+        ensures taken { OnOk result ((lines : List TableLine) → IsReadAs lines self.old → (l : TableLine) × (line_text l ≡ line.now) × IsReadAs (lines ++ l ∷ []) self.new) }
+        ensures bad { IfErr result (λ bad. (lines : List TableLine) → IsReadAs lines self.old → IsBadNext lines line.now number bad) }
+    {
         match read_line(alloc, line, number)? {
             Some(TableLine::OfKind(row)) => self.take_row(row, number),
             Some(TableLine::Last(end)) => self.take_end(end),
@@ -99,7 +113,10 @@ impl Tables {
 }
 
 /// What the lines of an input come to, and the number of the line after them.
-pub(crate) fn read_tables(alloc: Global, text: &[u8]) -> Result<(Tables, usize), Bad> {
+pub(crate) fn read_tables(alloc: Global, text: &[u8]) -> Result<(Tables, usize), Bad>
+    ensures read { IfOk result (λ (tables, number). IsReadWhole text.now tables number) }
+    ensures bad { IfErr result (IsNoSum text.now) }
+{
     let mut tables = Tables::new(alloc);
     let mut at = 0;
     let mut number = 1;
