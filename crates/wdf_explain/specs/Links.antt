@@ -1,5 +1,5 @@
 -- The lines of a wait list, each with the line that its cause names; and the circle that these make. (own)
-use Rattle.std.specs.Prelude.{if◌then◌else◌, ℕ, zero, suc, ◌≡◌, ◌<◌, ◌+◌, ◌==◌, Bool, true, false, List, [], ◌∷◌, ◌++◌, codes, decimal, find, length, map, Option, Some, None, is_some, position, slice_index_or}
+use Rattle.std.specs.Prelude.{ℕ, zero, suc, ◌+◌, ◌-◌, ◌==◌, Bool, true, false, List, [], ◌++◌, codes, decimal, find, length, map, Option, Some, None, is_some, position, slice_index_or}
 use Rattle.std.specs.List.{range_with_len}
 use Rattle.std.specs.Option.{option_and_then}
 use Rattle.wdf_base.specs.declared.wait.OpenThing.{OpenThing}
@@ -43,12 +43,17 @@ names (cause.ByWork w) t = is_of_work w.id.0 t
 names (cause.ByChild c) t = is_of_object c.id.0 t
 names _ t = false
 
--- the place of the line that a cause names
+-- the number of a line, from its place
+abbrev pub number_of : Option ℕ → Option ℕ
+number_of None = None
+number_of (Some k) = Some (k + 1)
+
+-- the number of the line that a cause names, counted from 1
 abbrev pub next_by : List WaitLine → Option Cause → Option ℕ
 next_by waits None = None
-next_by waits (Some c) = position (λ w. names c w.thing) waits
+next_by waits (Some c) = number_of (position (λ w. names c w.thing) waits)
 
--- the place of the line that a line waits for
+-- the number of the line that a line waits for
 abbrev pub next_of : List WaitLine → WaitLine → Option ℕ
 next_of waits w = next_by waits w.cause
 
@@ -58,36 +63,36 @@ nexts_of waits = map (next_of waits) waits
 
 -- ---- circles
 
--- the line that the line at a place waits for
+-- the line that the line with this number waits for
 abbrev pub next_at : List (Option ℕ) → ℕ → Option ℕ
-next_at nexts i = slice_index_or nexts i None
+next_at nexts i = slice_index_or nexts (i - 1) None
 
 -- the line at which one comes from a line after so many steps; none where a line before it waits for none
 abbrev pub follow : List (Option ℕ) → ℕ → ℕ → Option ℕ
 follow nexts zero i = Some i
 follow nexts (suc n) i = option_and_then (follow nexts n) (next_at nexts i)
 
--- one can go on from a line for as many steps as there are lines, and so goes round
+-- the line at which one comes from the line at a place after more steps than there are lines
+abbrev pub far_from : List (Option ℕ) → ℕ → Option ℕ
+far_from nexts k = option_and_then (follow nexts (length nexts)) (slice_index_or nexts k None)
+
+-- one can go on from the line at a place for so long, and so goes round
 abbrev pub goes_round : List (Option ℕ) → ℕ → Bool
-goes_round nexts i = is_some (follow nexts (length nexts) i)
+goes_round nexts k = is_some (far_from nexts k)
 
--- the first line from which one goes round
-abbrev pub first_round : List (Option ℕ) → Option ℕ
-first_round nexts = find (goes_round nexts) (range_with_len 0 (length nexts))
-
--- a line of the circle at which one comes from there
+-- a line of the circle at which one comes from the first line from which one goes round
 abbrev pub entry : List (Option ℕ) → Option ℕ
-entry nexts = option_and_then (follow nexts (length nexts)) (first_round nexts)
+entry nexts = option_and_then (far_from nexts) (find (goes_round nexts) (range_with_len 0 (length nexts)))
 
-abbrev pub is_place : ℕ → Option ℕ → Bool
-is_place c None = false
-is_place c (Some i) = i == c
+abbrev pub is_line : ℕ → Option ℕ → Bool
+is_line c None = false
+is_line c (Some i) = i == c
 
--- after one step more than this one is back at a line
+-- from the line after a line one is back at it in so many steps
 abbrev pub is_back : List (Option ℕ) → ℕ → ℕ → Bool
-is_back nexts c n = is_place c (follow nexts (n + 1) c)
+is_back nexts c n = is_line c (follow nexts (suc n) c)
 
--- after how many steps, less one, one is back at a line
+-- in how many steps
 abbrev pub steps_back : List (Option ℕ) → ℕ → Option ℕ
 steps_back nexts c = find (is_back nexts c) (range_with_len 0 (length nexts))
 
@@ -96,7 +101,7 @@ steps_back nexts c = find (is_back nexts c) (range_with_len 0 (length nexts))
 -- a line after a comma, and those after it; nothing where there is none
 abbrev pub by_next : (ℕ → List ℕ) → Option ℕ → List ℕ
 by_next rest None = []
-by_next rest (Some j) = codes ", " ++ decimal (j + 1) ++ rest j
+by_next rest (Some j) = codes ", " ++ decimal j ++ rest j
 
 -- the lines after a line, so many steps on, each after a comma
 abbrev pub steps_text : List (Option ℕ) → ℕ → ℕ → List ℕ
@@ -106,7 +111,7 @@ steps_text nexts (suc n) i = by_next (steps_text nexts n) (next_at nexts i)
 -- the lines of a circle, from one of them on until that comes again
 abbrev pub round_text : List (Option ℕ) → ℕ → Option ℕ → List ℕ
 round_text nexts c None = []
-round_text nexts c (Some n) = codes "These lines wait in a circle: " ++ decimal (c + 1) ++ steps_text nexts (n + 1) c ++ codes ".\n"
+round_text nexts c (Some n) = codes "These lines wait in a circle: " ++ decimal c ++ steps_text nexts (suc n) c ++ codes ".\n"
 
 abbrev pub circle_from : List (Option ℕ) → Option ℕ → List ℕ
 circle_from nexts None = []

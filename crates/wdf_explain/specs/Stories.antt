@@ -87,7 +87,7 @@ owned_story plan run _ = []
 -- the line for which a line waits
 abbrev pub see_text : Option ℕ → List ℕ
 see_text None = []
-see_text (Some i) = codes " See line " ++ decimal (i + 1) ++ codes "."
+see_text (Some i) = codes " See line " ++ decimal i ++ codes "."
 
 -- a line of the wait list with this number, why it is open, and the line for which it waits
 abbrev pub wait_story : Plan → List Event → List WaitLine → ℕ → WaitLine → List ℕ

@@ -1,5 +1,6 @@
 //! The line of a wait list that another waits for.
-ghost use Rattle.std.specs.Prelude.{◌≡◌, ◌<◌, IfOk, IfSome, length};
+ghost use Rattle.std.specs.Prelude.{◌≡◌, ◌<◌, IfOk, IfSome, Some, length, position};
+ghost use Rattle.wdf_base.specs.declared.wait.WaitLine.{WaitLine};
 ghost use Rattle.wdf_explain.specs.Links as links;
 
 use std::alloc::Global;
@@ -65,17 +66,26 @@ fn names(cause: Cause, thing: &OpenThing) -> bool
 
 /// The place of the line that a cause names.
 fn place_of(waits: &[WaitLine], cause: Cause) -> Option<usize>
-    ensures { result ≡ links.next_by waits.now (Some cause) }
+    ensures value { result ≡ position (λ (w : WaitLine). links.names cause w.thing) waits.now }
+    ensures within { IfSome result (λ place. place < length waits.now) }
 {
     waits.iter().position(|wait| names(cause, &wait.thing))
 }
 
-/// The place of the line that a line waits for.
+/// The number of the line that a cause names, counted from 1.
+fn number_of(waits: &[WaitLine], cause: Cause) -> Option<usize>
+    ensures { result ≡ links.next_by waits.now (Some cause) }
+{
+    let place = place_of(waits, cause)?;
+    Some(place + 1)
+}
+
+/// The number of the line that a line waits for.
 pub(crate) fn next_of(waits: &[WaitLine], wait: &WaitLine) -> Option<usize>
     ensures { result ≡ links.next_of waits.now wait.now }
 {
     match wait.cause {
-        Some(cause) => place_of(waits, cause),
+        Some(cause) => number_of(waits, cause),
         None => None,
     }
 }

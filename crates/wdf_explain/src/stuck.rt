@@ -64,12 +64,12 @@ fn push_owned(
 }
 
 /// Adds the line for which a line waits.
-fn push_see(out: &mut Text, place: Option<usize>) -> Result<(), Memory>
-    ensures { OnOk result (out.new ≡ out.old ++ see_text place) }
+fn push_see(out: &mut Text, line: Option<usize>) -> Result<(), Memory>
+    ensures { OnOk result (out.new ≡ out.old ++ see_text line) }
 {
-    match place {
-        Some(place) => {
-            push_counted(out, b" See line ", place + 1)?;
+    match line {
+        Some(line) => {
+            push_counted(out, b" See line ", line)?;
             out.push(b".")
         }
         None => Ok(()),

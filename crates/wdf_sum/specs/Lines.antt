@@ -46,10 +46,10 @@ abbrev pub row_words : ℕ → ℕ → ℕ → List ℕ → List ℕ
 row_words count seed events kind =
     decimal count ++ (codes " seeds, seed " ++ (decimal seed ++ (codes " in " ++ (decimal events ++ (codes " events: " ++ kind)))))
 
--- the last line of a table, without its line feed, as it is read
-abbrev pub end_words : ℕ → ℕ → ℕ → ℕ → List ℕ
-end_words from to count events =
-    codes "seeds " ++ (decimal from ++ (codes " to " ++ (decimal to ++ (codes ": " ++ (decimal count ++ (codes " runs, " ++ (decimal events ++ (codes " events" ++ []))))))))
+-- the last line of a table, without its line feed, as it is read, with what comes after it
+abbrev pub end_words : ℕ → ℕ → ℕ → ℕ → List ℕ → List ℕ
+end_words from to count events rest =
+    codes "seeds " ++ (decimal from ++ (codes " to " ++ (decimal to ++ (codes ": " ++ (decimal count ++ (codes " runs, " ++ (decimal events ++ (codes " events" ++ rest))))))))
 
 -- ---- what lines have
 

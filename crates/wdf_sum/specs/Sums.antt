@@ -81,7 +81,7 @@ pub record StopsAt (input : List ℕ) (number : ℕ) : Type 0 where
   pub lines : List TableLine
   pub are : trace_lines input ≡ map line_text lines
   pub number_is : number ≡ length lines + 1
-  pub open : (ends_in lines ≡ []) ⊎ (all_seeds (rows_in lines) ≢ count_of (ends_in lines))
+  pub unclosed : (ends_in lines ≡ []) ⊎ (all_seeds (rows_in lines) ≢ count_of (ends_in lines))
 
 -- the whole input is lines of tables, which come to this, and the line after them has this number
 abbrev pub IsReadWhole : List ℕ → Tables → ℕ → Type 0
@@ -121,7 +121,7 @@ pub record AreApart (ends : List Seeds) (number : ℕ) (reason : Why) : Type 0 w
   pub apart : Seeds
   pub there : slice_get ordered k ≡ Some apart
   pub number_is : number ≡ apart.line
-  pub why : IsApart (first.from + count_of (take k ordered)) apart reason
+  pub reason_is : IsApart (first.from + count_of (take k ordered)) apart reason
 
 -- the ranges of an input's tables are no one range
 pub record HasApart (input : List ℕ) (number : ℕ) (reason : Why) : Type 0 where
