@@ -1,6 +1,5 @@
 //! The story of a fault.
 ghost use Rattle.std.specs.Prelude.{◌≡◌, ◌-◌, ◌++◌, OnOk, codes, length, slice_get};
-ghost use Rattle.std.specs.Option.{option_copied};
 ghost use Rattle.wdf_lines.specs.Lines.{object_text};
 ghost use Rattle.wdf_explain.specs.Stories.{cpu_story, doing_story, doing_text, fault_story, fault_text, is_call, object_story, objects_story};
 
@@ -114,9 +113,9 @@ fn push_doing_story(
     out: &mut Text,
     plan: &Plan,
     events: &[Event],
-    doing: Option<&Doing>,
+    doing: &Option<Doing>,
 ) -> Result<(), Memory>
-    ensures { OnOk result (out.new ≡ out.old ++ doing_story plan.now events.now (option_copied doing)) }
+    ensures { OnOk result (out.new ≡ out.old ++ doing_story plan.now events.now doing.now) }
 {
     match doing {
         Some(doing) => {
@@ -146,9 +145,9 @@ pub(crate) fn push_fault_story(
     out: &mut Text,
     plan: &Plan,
     events: &[Event],
-    doing: Option<&Doing>,
+    doing: &Option<Doing>,
 ) -> Result<(), Memory>
-    ensures { OnOk result (out.new ≡ out.old ++ fault_story plan.now events.now (option_copied doing) (slice_get events.now (length events.now - 1))) }
+    ensures { OnOk result (out.new ≡ out.old ++ fault_story plan.now events.now doing.now (slice_get events.now (length events.now - 1))) }
 {
     match events.last() {
         Some(Event::Fault { fault, line, .. }) => {

@@ -27,5 +27,5 @@ mod words;
 
 pub use asked::Asked;
 pub use story::story_of;
-pub use told::{Doing, Having, Standing, Told};
+pub use told::{Doing, Having, Standing};
 pub use turns::Turn;

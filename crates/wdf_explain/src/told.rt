@@ -1,5 +1,5 @@
 //! What is told of a run beside its events.
-use wdf_base::{Callback, Cpu, Ending, Event, FrameId, Handle, Intent, Life, Mark, Status, WaitLine};
+use wdf_base::{Callback, Cpu, FrameId, Handle, Intent, Life, Mark, Status};
 
 /// Who has an object.
 #[derive(Clone, Copy)]
@@ -47,15 +47,4 @@ pub struct Doing {
     pub first: Option<Standing>,
     pub second: Option<Standing>,
     pub third: Option<Standing>,
-}
-
-/// A run and its ending.
-#[derive(Clone, Copy)]
-pub struct Told<'a> {
-    pub events: &'a [Event],
-    pub ending: Ending,
-    /// The wait list.
-    pub waits: &'a [WaitLine],
-    /// What was about to be done, where the run ended in a fault.
-    pub doing: Option<&'a Doing>,
 }

@@ -8,7 +8,7 @@ use crate::doing::faulted;
 use std::alloc::Global;
 use wdf_base::{Agent, Event, Memory, WaitLine};
 use wdf_core::Core;
-use wdf_explain::{Doing, Told, story_of};
+use wdf_explain::{Doing, story_of};
 use wdf_writing::Text;
 
 /// The events of a run.
@@ -51,11 +51,12 @@ pub fn story_of_run<A: Agent>(alloc: Global, core: &Core<A>) -> Result<Text, Mem
     let events = events_of(alloc, core)?;
     let waits = waits_of(alloc, core)?;
     let doing = doing_at_end(core, events.as_slice());
-    let told = Told {
-        events: events.as_slice(),
-        ending: core.ending(),
-        waits: waits.as_slice(),
-        doing: doing.as_ref(),
-    };
-    story_of(alloc, core.plan(), &told)
+    story_of(
+        alloc,
+        core.plan(),
+        events.as_slice(),
+        core.ending(),
+        waits.as_slice(),
+        &doing,
+    )
 }

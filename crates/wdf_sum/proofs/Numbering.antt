@@ -20,8 +20,8 @@ stops_by : (b : ℕ) (bytes : List ℕ) → not (is_ascii_digit b) ≡ true → 
 stops_by b bytes ends = take_while-cons is_ascii_digit b bytes ∙ by_test (is_ascii_digit b) ends
   where
     by_test : (t : Bool) → not t ≡ true → cond t (b ∷ take_while is_ascii_digit bytes) [] ≡ []
-    by_test true no = absurd (let z : ⊥ = cc in z)
-    by_test false no = refl
+    by_test true h = absurd (let z : ⊥ = cc in z)
+    by_test false h = refl
 
 stops : (word more : List ℕ) → ends_digits word ≡ true → take_while is_ascii_digit (word ++ more) ≡ []
 stops [] more ends = absurd (let z : ⊥ = cc in z)
@@ -64,3 +64,18 @@ same_reading text word rest rest' number number' ends few less is digits behind 
       same_number number' number less few (sym digits ∙ there.digits),
       append_cancel_left word rest' rest (sym behind ∙ there.behind),
     )
+
+-- ---- what digits write
+
+-- digits of no number of 64 bits are those of none
+pub none_written : (digits : List ℕ) (number : ℕ) → None ≡ small_number digits → number < 2 ^ 64 → digits ≡ decimal number → ⊥
+none_written digits number none few is =
+    let there : small_number digits ≡ Some number = ap small_number is ∙ small_number-decimal number few in
+    let z : ⊥ = cc in z
+
+-- digits that aren't those of the number that they write are those of no other
+pub other_written : (digits : List ℕ) (other number : ℕ) → Some other ≡ small_number digits → (decimal other ≡ digits → ⊥) → number < 2 ^ 64 → digits ≡ decimal number → ⊥
+other_written digits other number some differs few is =
+    let there : small_number digits ≡ Some number = ap small_number is ∙ small_number-decimal number few in
+    let same : other ≡ number = some_inj other number (some ∙ there) in
+    differs (ap decimal same ∙ sym is)

@@ -110,18 +110,36 @@ IsApart end s why.CountedTwice = s.from < end
 IsApart end s why.Gap = end < s.from
 IsApart end s _ = ⊥
 
--- The ranges are no one range: in their order, one of them begins before those before it end, or after.
+-- One of these ranges, in its line, begins before those before it end, or after; the first of them begins here.
+pub record HasBreak (from : ℕ) (ordered : List Seeds) (number : ℕ) (reason : Why) : Type 0 where
+  pub k : ℕ
+  pub apart : Seeds
+  pub there : slice_get ordered k ≡ Some apart
+  pub number_is : number ≡ apart.line
+  pub reason_is : IsApart (from + count_of (take k ordered)) apart reason
+
+-- why ranges in their order aren't one range from here on; memory isn't it
+abbrev pub IsBreak : ℕ → List Seeds → Bad → Type 0
+IsBreak from ordered NoMemory = ⊥
+IsBreak from ordered (AtLine number reason) = HasBreak from ordered number reason
+
+-- The ranges are no one range: in their order there is a break.
 pub record AreApart (ends : List Seeds) (number : ℕ) (reason : Why) : Type 0 where
   pub ordered : List Seeds
   pub moved : IsPermutation ends ordered
   pub sorted : IsSorted seeds_cmp ordered
   pub first : Seeds
   pub first_is : slice_get ordered 0 ≡ Some first
-  pub k : ℕ
-  pub apart : Seeds
-  pub there : slice_get ordered k ≡ Some apart
-  pub number_is : number ≡ apart.line
-  pub reason_is : IsApart (first.from + count_of (take k ordered)) apart reason
+  pub broken : HasBreak first.from ordered number reason
+
+-- why ranges are no one range
+abbrev pub AreNoRange : List Seeds → Bad → Type 0
+AreNoRange ends NoMemory = ⊥
+AreNoRange ends (AtLine number reason) = AreApart ends number reason
+
+-- the same of ranges in their order
+abbrev pub IsNoRangeFrom : List Seeds → Bad → Type 0
+IsNoRangeFrom ordered bad = (first : Seeds) × (slice_get ordered 0 ≡ Some first) × IsBreak first.from ordered bad
 
 -- the ranges of an input's tables are no one range
 pub record HasApart (input : List ℕ) (number : ℕ) (reason : Why) : Type 0 where

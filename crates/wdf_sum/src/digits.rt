@@ -1,5 +1,5 @@
 //! Numbers at the front of a text.
-ghost use Rattle.std.specs.Prelude.{◌≡◌, ◌≢◌, ◌<◌, ◌≤◌, ◌^◌, ◌++◌, ℕ, List, IfNone, IfSome, IsTrue, MatchOption, decimal, length};
+ghost use Rattle.std.specs.Prelude.{◌≡◌, ◌≢◌, ◌<◌, ◌≤◌, ◌^◌, ◌++◌, ℕ, List, IfNone, IfSome, IsTrue, MatchOption, bytes_eq, decimal, length};
 ghost use Rattle.std.specs.Char.{is_ascii_digit};
 ghost use Rattle.std.specs.List.{take_while};
 ghost use Rattle.wdf_sum.specs.Lines.{ends_digits};
@@ -17,17 +17,28 @@ fn digits_len(text: &[u8]) -> usize
         .count()
 }
 
+/// Whether these are the decimal digits of a number.
+fn is_decimal(number: u64, digits: &[u8]) -> bool
+    ensures { result ≡ bytes_eq (decimal number) digits.now }
+{
+    let mut buffer = Buffer::new();
+    buffer.format(number).as_bytes() == digits
+}
+
 /// The number whose decimal digits these are.
 fn number_of(digits: &[u8]) -> Option<u64>
     ensures found { IfSome result (λ number. digits.now ≡ decimal number) }
     ensures none { IfNone result ((number : ℕ) → number < 2 ^ 64 → digits.now ≢ decimal number) }
 {
-    let number = small_number(digits)?;
-    let mut buffer = Buffer::new();
-    if buffer.format(number).as_bytes() == digits {
-        Some(number)
-    } else {
-        None
+    match small_number(digits) {
+        Some(number) => {
+            if is_decimal(number, digits) {
+                Some(number)
+            } else {
+                None
+            }
+        }
+        None => None,
     }
 }
 
@@ -36,7 +47,11 @@ pub(crate) fn after<'a>(text: &'a [u8], front: &[u8]) -> Option<&'a [u8]>
     ensures found { IfSome result (λ rest. text.now ≡ front.now ++ rest.now) }
     ensures none { IfNone result ((rest : List ℕ) → text.now ≢ front.now ++ rest) }
 {
-    text.strip_prefix(front)
+    if text.len() >= front.len() && &text[..front.len()] == front {
+        Some(&text[front.len()..])
+    } else {
+        None
+    }
 }
 
 /// A number at the front of a text, and what comes behind it.
@@ -53,7 +68,8 @@ pub(crate) fn number_before<'a>(text: &'a [u8], word: &[u8]) -> Option<Numbered<
     ensures each { (number : ℕ) (rest : List ℕ) → number < 2 ^ 64 → text.now ≡ decimal number ++ (word.now ++ rest) → MatchOption result ⊥ (λ it. (it.number ≡ number) × (it.rest.now ≡ rest)) }
 {
     let len = digits_len(text);
-    let number = number_of(&text[..len])?;
-    let rest = after(&text[len..], word)?;
-    Some(Numbered { number, rest })
+    match (number_of(&text[..len]), after(&text[len..], word)) {
+        (Some(number), Some(rest)) => Some(Numbered { number, rest }),
+        _ => None,
+    }
 }

@@ -1,7 +1,7 @@
 //! The ranges of tables as one range.
-ghost use Rattle.std.specs.Prelude.{◌≡◌, ◌+◌, ◌<◌, ◌^◌, IfErr, IfOk};
+ghost use Rattle.std.specs.Prelude.{◌≡◌, ◌+◌, ◌<◌, ◌^◌, IfErr, IfNone, IfOk, IfSome};
 ghost use Rattle.wdf_sum.specs.Lines.{count_of};
-ghost use Rattle.wdf_sum.specs.Sums.{AreApart, AreJoined, seeds_cmp};
+ghost use Rattle.wdf_sum.specs.Sums.{AreJoined, AreNoRange, Follow, IsApart, IsBreak, IsNoRangeFrom, seeds_cmp};
 
 use crate::line::Seeds;
 use crate::refused::{Bad, Why};
@@ -19,28 +19,30 @@ impl Seeds {
     }
 
     /// Why the range doesn't begin so many seeds after this one, if it doesn't.
-    fn why_apart(&self, from: u64, done: u64) -> Option<Why> {
-        match self.from.checked_sub(from) {
-            Some(place) => {
-                if place == done {
-                    None
-                } else if place > done {
-                    Some(Why::Gap)
-                } else {
-                    Some(Why::CountedTwice)
-                }
-            }
-            None => Some(Why::CountedTwice),
+    fn why_apart(&self, from: u64, done: u64) -> Option<Why>
+        ensures fits { IfNone result (self.now.from ≡ from + done) }
+        ensures apart { IfSome result (IsApart (from + done) self.now) }
+    {
+        if self.from < from {
+            return Some(Why::CountedTwice);
+        }
+        let place = self.from - from;
+        if place == done {
+            None
+        } else if place > done {
+            Some(Why::Gap)
+        } else {
+            Some(Why::CountedTwice)
         }
     }
 }
 
-/// The first seed of ranges in their order, if each begins where those before it end.
-fn first_of_ordered(ends: &[Seeds]) -> Result<u64, Bad> {
-    let from = match ends.first() {
-        Some(first) => first.from,
-        None => 0,
-    };
+/// Whether each of these ranges begins where those before it end, and the first of them here.
+fn follow(ends: &[Seeds], from: u64) -> Result<(), Bad>
+    requires { count_of ends.now < 2 ^ 64 }
+    ensures follow { IfOk result (λ _. Follow from ends.now) }
+    ensures broken { IfErr result (IsBreak from ends.now) }
+{
     let mut done = 0;
     for end in ends {
         match end.why_apart(from, done) {
@@ -54,14 +56,29 @@ fn first_of_ordered(ends: &[Seeds]) -> Result<u64, Bad> {
         }
         done += end.count;
     }
-    Ok(from)
+    Ok(())
+}
+
+/// The first seed of ranges in their order, if they are one range.
+fn first_of_ordered(ends: &[Seeds]) -> Result<u64, Bad>
+    requires { count_of ends.now < 2 ^ 64 }
+    ensures joined { IfOk result (λ from. Follow from ends.now) }
+    ensures apart { IfErr result (IsNoRangeFrom ends.now) }
+{
+    let Some(first) = ends.first() else {
+        return Ok(0);
+    };
+    match follow(ends, first.from) {
+        Ok(()) => Ok(first.from),
+        Err(bad) => Err(bad),
+    }
 }
 
 /// The first seed of ranges, if they are one range in some order.
 pub(crate) fn first_of(mut ends: Vec<Seeds>) -> Result<u64, Bad>
     requires { count_of ends.items < 2 ^ 64 }
     ensures joined { IfOk result (λ from. AreJoined from ends.items) }
-    ensures apart { IfErr result (AreApart ends.items) }
+    ensures apart { IfErr result (AreNoRange ends.items) }
 {
     ends.sort_unstable_by(|a, b| a.compare(b));
     first_of_ordered(ends.as_slice())

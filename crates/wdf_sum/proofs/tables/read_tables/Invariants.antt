@@ -3,8 +3,8 @@ use Rattle.std.proofs.Common.{◌≡◌, length, ◌-◌}
 use Rattle.wdf_sum.proofs.Taking.{IsReadTo}
 use Rattle.wdf_sum.proofs.tables.read_tables.Given as goal
 
-abbrev pub invariant-loop-tables : goal.invariant-loop-tables
-invariant-loop-tables l = IsReadTo l.text l.at l.tables l.number
+abbrev pub invariant-loop-at : goal.invariant-loop-at
+invariant-loop-at l = IsReadTo l.text l.at l.tables l.number
 
-abbrev pub decreases-loop-tables : goal.decreases-loop-tables
-decreases-loop-tables l = length l.text - l.at
+abbrev pub decreases-loop-at : goal.decreases-loop-at
+decreases-loop-at l = length l.text - l.at
