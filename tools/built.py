@@ -1,4 +1,4 @@
-"""The built program, for the scripts of tools/."""
+"""The built programs, for the scripts of tools/."""
 
 import os
 import shutil
@@ -6,13 +6,14 @@ import sys
 
 ROOT = os.path.dirname(os.path.dirname(os.path.abspath(__file__)))
 PROGRAM = os.path.join(ROOT, "crates", "kmdfsim", "out", "kmdfsim")
+HUNTER = os.path.join(ROOT, "crates", "kmdfhunt", "out", "kmdfhunt")
 
 
 def program_at(path):
-    """The path of the program, or an end of the script that says how to build it."""
+    """The path of a program, or an end of the script that says how to build it."""
     path = os.path.abspath(path)
     if not os.access(path, os.X_OK):
-        sys.exit(f"no program at {path}. Build it first: `./kmdfsim check < examples/first-read.kmdf` at the top; README.md says how long that takes")
+        sys.exit(f"no program at {path}. Build it first: `./{os.path.basename(path)}` at the top does; README.md says how long that takes")
     return path
 
 

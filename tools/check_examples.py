@@ -1,18 +1,20 @@
 #!/usr/bin/env python3
 """Runs the program on each example of the documents, on the files of examples/ and scenarios/, and on the worked runs.
 
-    python3 tools/check_examples.py [PROGRAM [SEEDS]]
+    python3 tools/check_examples.py [PROGRAM [SEEDS [HUNTER]]]
 
 In README.md and the pages of docs/ a fenced block `kmdf` is a whole scenario; `kmdf blocks`, `kmdf device` and
 `kmdf statements` are put where such lines belong, with the declarations below. `check` must accept each, and leave what it
 writes as it is. A block `trace` is the run that `order` writes for the example before it; `trace WORDS of FILE` is the end
-of what these words write for that file. A block `seeds` is a call of tools/try_seeds.py with the rows that it prints.
+of what these words write for that file. A block `console` is what a person types and sees: after `$` a line for a shell, and
+below it what that writes. It is run where `./kmdfsim` and `./kmdfhunt`, `examples/` and `scenarios/` are, with what the blocks of
+that document wrote before.
 
 The rows of "What a C programmer writes" must be refused so, and what is meant must be accepted. Of each name in the tables
 of refusals and faults scenarios/refused has a text; what it is answered is in its first line.
 
 Each file of examples/ and scenarios/ must run to its end, with the status that its first comment names (`the status 4`), or
-with 0. A comment `Seed N: ENDING` must be so. What `order` and `seed N` write, for each N below SEEDS (3 where it isn't
+with 0. A comment `Seed N: ENDING` must be so, a fault with its line as `kmdfhunt` names it. What `order` and `seed N` write, for each N below SEEDS (3 where it isn't
 named), must be accepted by `replay`. Of each scenario of tools/runs, scenarios/stuck and scenarios/spinning `order` must
 write the trace beside it. Those traces were made by hand or by another program. So must `idle` of those of tools/idle, but for
 those with two registers IDLE_TIMEOUT: of them `check` must refuse the text.
@@ -22,10 +24,10 @@ import os
 import re
 import subprocess
 import sys
+import tempfile
 
 sys.dont_write_bytecode = True
-import try_seeds
-from built import PROGRAM, ROOT, program_at
+from built import HUNTER, PROGRAM, ROOT, program_at
 
 GUIDE = os.path.join("docs", "SCENARIO.md")
 DOCUMENTS = ("README.md", *(os.path.join("docs", name) for name in sorted(os.listdir(os.path.join(ROOT, "docs"))) if name.endswith(".md")))
@@ -65,7 +67,7 @@ STATUS = re.compile(r"the status (\d+)")
 # The line of how a run ended, and the status that goes with it.
 ENDING = re.compile(r"^(finished|fault|stuck|limit) \d+$", re.MULTILINE)
 STATUSES = {"finished": 0, "fault": 3, "stuck": 4, "limit": 5}
-FENCED = re.compile(r"^```(kmdf|trace|seeds)(?: ([^\n]+))?\n(.*?)^```$", re.MULTILINE | re.DOTALL)
+FENCED = re.compile(r"^```(kmdf|trace|console)(?: ([^\n]+))?\n(.*?)^```$", re.MULTILINE | re.DOTALL)
 SLIPS = re.compile(r"^\| written \|.*?\n\n", re.MULTILINE | re.DOTALL)
 # The sections of the guide with tables of names that say how a text, a plan, a trace or a driver is refused.
 NAMING = ("Keeping a trace, and checking it again", "When a text is refused", "When a plan is refused", "When the driver is at fault")
@@ -103,18 +105,25 @@ def check_trace(program, place, text, scenario):
     return None if ("\n" + call(program, words, read(path))[1]).endswith("\n" + text) else f"`{words}` writes something else at the end"
 
 
-def check_seeds(program, text):
-    """What is wrong with a call of tools/try_seeds.py and its rows, if anything is."""
-    first, _, rows = text.partition("\n")
-    words = first.split()
-    if words[:3] != ["$", "python3", "tools/try_seeds.py"]:
-        return f"no call of tools/try_seeds.py: {first}"
-    done = subprocess.run([sys.executable, *words[2:3], "--program", program, *words[3:]], cwd=ROOT, capture_output=True, text=True, check=False)
-    return None if done.stdout == rows else f"it prints\n{done.stdout}"
+def check_console(folder, text):
+    """What is wrong with the lines of a shell and what they write, if anything is."""
+    for line, due in re.findall(r"^\$ ([^\n]*)\n((?:(?!\$ )[^\n]*\n)*)", text, re.MULTILINE):
+        done = subprocess.run(["bash", "-c", line], cwd=folder, capture_output=True, text=True, check=False)
+        if done.stdout + done.stderr != due:
+            return f"`{line}` writes\n{done.stdout}{done.stderr}"
+    return None if text.startswith("$ ") else "no line of a shell"
 
 
-def check_document(program, path):
-    """The faults of a document's examples, and how many there are."""
+def workplace(folder, program, hunter):
+    """Makes a folder one in which the lines of a document can be run."""
+    os.symlink(program, os.path.join(folder, "kmdfsim"))
+    os.symlink(hunter, os.path.join(folder, "kmdfhunt"))
+    for name in ("examples", "scenarios"):
+        os.symlink(os.path.join(ROOT, name), os.path.join(folder, name))
+
+
+def check_document(program, folder, path):
+    """The faults of a document's examples, and how many there are; lines of a shell are run in the folder."""
     faults, count, scenario = [], 0, ""
     text = read(path)
     for found in FENCED.finditer(text):
@@ -126,7 +135,7 @@ def check_document(program, path):
         elif form == "trace":
             fault = check_trace(program, place, shown, scenario)
         else:
-            fault = check_seeds(program, shown)
+            fault = check_console(folder, shown)
         count += 1
         if fault:
             faults.append(f"{path}:{text.count(chr(10), 0, found.start()) + 1}: {fault}")
@@ -160,10 +169,17 @@ def check_slips(program):
     return faults, len(rows)
 
 
+def ending_of(trace):
+    """The ending of a run in a word; of a fault its name and its line, too."""
+    word = ENDING.search(trace).group(1)
+    fault = re.search(r" fault (\w+) (\d+)$", trace, re.MULTILINE)
+    return f"fault {fault.group(1)} at line {fault.group(2)}" if word == "fault" else word
+
+
 def answered(program, words, text):
     """What the program says of a text, in one line."""
     status, answer = call(program, words, text)
-    return try_seeds.ending_of(status, answer.encode()) if words == "order" and status in try_seeds.ENDINGS else answer.split("\n")[0]
+    return ending_of(answer) if words == "order" and status in STATUSES.values() else answer.split("\n")[0]
 
 
 def check_refused(program):
@@ -221,21 +237,16 @@ def check_file(program, text, seeds):
     if status != due:
         return f"the run ends with {status}"
     for seed, ending in SEED.findall(head):
-        found = answered_by_seed(program, seed, text)
+        found = ending_of(call(program, f"seed {seed}", text)[1])
         if found != ending:
             return f"seed {seed}: {found}"
     return replayed(program, text, seeds)
 
 
-def answered_by_seed(program, seed, text):
-    status, trace = call(program, f"seed {seed}", text)
-    return try_seeds.ending_of(status, trace.encode())
-
-
 def check_files(program, seeds):
     """The faults of the files of examples/ and scenarios/, and how many there are."""
     faults, count = [], 0
-    for folder in ("examples", "scenarios/drivers", "scenarios/not-found"):
+    for folder in ("examples", "scenarios/drivers", "scenarios/hunt", "scenarios/not-found"):
         names = sorted(name for name in os.listdir(os.path.join(ROOT, folder)) if name.endswith(".kmdf"))
         for name in names:
             fault = check_file(program, read(folder, name), seeds)
@@ -269,7 +280,13 @@ def check_worked(program):
 def main():
     program = program_at(sys.argv[1] if len(sys.argv) > 1 else PROGRAM)
     seeds = int(sys.argv[2]) if len(sys.argv) > 2 else 3
-    parts = [(f"examples of {path}", check_document(program, path)) for path in DOCUMENTS if FENCED.search(read(path))]
+    hunter = program_at(sys.argv[3] if len(sys.argv) > 3 else HUNTER)
+    parts = []
+    for path in DOCUMENTS:
+        if FENCED.search(read(path)):
+            with tempfile.TemporaryDirectory(prefix="kmdfsim-") as folder:
+                workplace(folder, program, hunter)
+                parts.append((f"examples of {path}", check_document(program, folder, path)))
     parts.append(("slips", check_slips(program)))
     parts.append(("refusals", check_refused(program)))
     parts.append(("texts of Windows", check_windows(program)))
