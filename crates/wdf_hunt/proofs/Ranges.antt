@@ -4,7 +4,7 @@ use Rattle.std.specs.Option.{option_and_then}
 use Rattle.std.proofs.lemmas.Bool.Decides.{nat_tests}
 use Rattle.wdf_top.specs.Words.{number_word}
 use Rattle.wdf_hunt.specs.declared.words.Form.{Form}
-use Rattle.wdf_hunt.specs.declared.words.Form.TheVariants.{Seeds, Shrink}
+use Rattle.wdf_hunt.specs.declared.words.Form.TheVariants.{Seeds, Shrink, Sum, Explain}
 use Rattle.wdf_hunt.specs.Words.{seeds_form, form_with_number, form_with_numbers, form_of_words}
 
 -- a range of seeds
@@ -43,9 +43,15 @@ no_number : (word : List ℕ) (n : Option ℕ) (from count : ℕ) → option_and
 no_number word (Some n) from count same = no_shrink (bytes_eq word (codes "shrink")) n from count same
 no_number word None from count same = let no : ⊥ = cc in no
 
+-- one word alone asks for no range
+no_word : (a b : Bool) (from count : ℕ) → (if a then Some Sum else (if b then Some Explain else None)) ≡ Some (Seeds from count) → ⊥
+no_word true b from count same = let z : ⊥ = cc in z
+no_word false true from count same = let z : ⊥ = cc in z
+no_word false false from count same = let z : ⊥ = cc in z
+
 pub range_of_form : (words : List (List ℕ)) (from count : ℕ) → form_of_words words ≡ Some (Seeds from count) → IsRange from count
 range_of_form [] from count same = absurd (let no : ⊥ = cc in no)
-range_of_form (word ∷ []) from count same = absurd (let no : ⊥ = cc in no)
+range_of_form (word ∷ []) from count same = absurd (no_word (bytes_eq word (codes "sum")) (bytes_eq word (codes "explain")) from count same)
 range_of_form (word ∷ a ∷ []) from count same = absurd (no_number word (number_word a) from count same)
 range_of_form (word ∷ a ∷ b ∷ []) from count same = by_words word (number_word a) (number_word b) from count same
 range_of_form (word ∷ a ∷ b ∷ c ∷ more) from count same = absurd (let no : ⊥ = cc in no)

@@ -1,5 +1,10 @@
 -- What `sum` writes. (own)
-use Rattle.std.specs.Prelude.{ℕ, ◌≡◌, ◌⊎◌, ◌++◌, List, codes, decimal}
+use Rattle.std.specs.Prelude.{ℕ, ◌≡◌, ◌⊎◌, ◌+◌, ◌++◌, List, codes, decimal}
+use Rattle.wdf_io.specs.Outside.{Rose}
+use Rattle.wdf_input.specs.Input.{TakesAtMost, TakesCount}
+use Rattle.wdf_input.specs.declared.input.TheConstants.{INPUT_LIMIT}
+use Rattle.wdf_output.specs.declared.refusal.Refusal.{Refusal}
+use Rattle.wdf_output.specs.declared.refusal.Refusal.TheVariants.{ReadFault, TooLarge, NoMemory, NoScene, NoPlan}
 use Rattle.wdf_output.specs.Refusals.{no_memory_line}
 use Rattle.wdf_output.specs.Said.{Sinking, Says}
 use Rattle.wdf_top.specs.Top.{Sourcing, IsRead, IsTooLarge, IsReadFault, IsOutOfMemory}
@@ -50,6 +55,14 @@ IsAdded input text status = IsSumText input text status ⊎ IsRefusedText input 
 -- either
 abbrev pub TellsSumOf : List ℕ → Sinking → ℕ → Type 0
 TellsSumOf input k answer = (text : List ℕ) × (status : ℕ) × (IsAdded input text status ⊎ ((text ≡ no_memory_line) × (status ≡ 15))) × Says k text status answer
+
+-- why an input wasn't read to its end: a read failed, it is longer than it may be, or memory was refused
+abbrev pub IsReadCauseOf : Sourcing → Refusal → Type 0
+IsReadCauseOf s ReadFault = Rose s.faults_before s.faults_after × TakesAtMost s.before s.after INPUT_LIMIT
+IsReadCauseOf s TooLarge = TakesCount s.before s.after (INPUT_LIMIT + 1) × (s.faults_after ≡ s.faults_before)
+IsReadCauseOf s NoMemory = (s.faults_after ≡ s.faults_before) × TakesAtMost s.before s.after INPUT_LIMIT
+IsReadCauseOf s (NoScene refusal) = ⊥
+IsReadCauseOf s (NoPlan refusal) = ⊥
 
 -- what is to be written, with its status
 abbrev pub IsSumDue : Sourcing → List ℕ → ℕ → Type 0

@@ -4,6 +4,7 @@ ghost use Rattle.wdf_parse.specs.StandsFor.{StandsFor};
 ghost use Rattle.wdf_refusals.specs.First.{first_refusal};
 ghost use Rattle.wdf_top.specs.Causes.{IsCause, all_of};
 ghost use Rattle.wdf_top.specs.Top.{IsRead, sourcing};
+ghost use Rattle.wdf_hunt.specs.Sums.{IsReadCauseOf};
 
 use std::alloc::Global;
 use wdf_input::read_whole;
@@ -20,7 +21,7 @@ use wdf_scene::Scene;
 /// [`Refusal`]: a read failed, the input is longer than it may be, or memory was refused.
 pub(crate) fn read_text<S: Source>(alloc: Global, source: &mut S) -> Result<Vec<u8>, Refusal>
     ensures text { IfOk result (λ text. IsRead (sourcing (S.left source.old) (S.left source.new) (S.faults source.old) (S.faults source.new)) text.items) }
-    ensures cause { IfErr result (λ refusal. (part : List ℕ → List ℕ) → IsCause part (sourcing (S.left source.old) (S.left source.new) (S.faults source.old) (S.faults source.new)) refusal) }
+    ensures cause { IfErr result (IsReadCauseOf (sourcing (S.left source.old) (S.left source.new) (S.faults source.old) (S.faults source.new))) }
 {
     let text = read_whole(alloc, source)?;
     Ok(text)
