@@ -1,9 +1,10 @@
 -- A number at the front of a text, and what comes behind it.
-use Rattle.std.proofs.Common.{◌≡◌, ℕ, ◌^◌, ◌<◌, ◌≤◌, Bool, true, false, cond, not, List, [], ◌∷◌, ◌++◌, length, take, drop, decimal, Option, Some, None, refl, ap, ◌∙◌, sym, subst, arith, IsTrue}
+use Rattle.std.proofs.Common.{◌≡◌, ℕ, ◌^◌, ◌<◌, Bool, true, false, cond, not, List, [], ◌∷◌, ◌++◌, length, take, drop, bytes_eq, decimal, Option, Some, None, refl, ap, ◌∙◌, sym}
 use Rattle.std.specs.Char.{is_ascii_digit}
 use Rattle.std.specs.List.{list_all, take_while}
 use Rattle.std.proofs.lemmas.Bool.{and_parts}
-use Rattle.std.proofs.lemmas.List.{append_cancel_left, append_cancel_right, take-append-drop}
+use Rattle.std.proofs.lemmas.List.{append_cancel_left}
+use Rattle.std.proofs.lemmas.Slice.Eq.{bytes_eq-Decides}
 use Rattle.std.proofs.lemmas.List.Sums.{take_while-cons}
 use Rattle.wdf_text.specs.Decimals.{small_number}
 use Rattle.wdf_text.proofs.ReadBack.{decimal_digits, small_number-decimal}
@@ -35,10 +36,10 @@ digits_taken (d ∷ ds) word more ends all =
     ∙ ap (λ b. cond b (d ∷ take_while is_ascii_digit (ds ++ (word ++ more))) []) parts.0
     ∙ ap (λ (ys : List ℕ). d ∷ ys) (digits_taken ds word more ends parts.1)
 
--- a text that begins with the digits of a number and with a word
-pub record IsNumbered (text word : List ℕ) (number : ℕ) (rest : List ℕ) : Type 0 where
-  pub digits : take (length (take_while is_ascii_digit text)) text ≡ decimal number
-  pub behind : drop (length (take_while is_ascii_digit text)) text ≡ word ++ rest
+-- a text that begins with the digits of a number, so many, and with a word
+pub record IsNumbered (text word : List ℕ) (number : ℕ) (rest : List ℕ) (len : ℕ) : Type 0 where
+  pub digits : take len text ≡ decimal number
+  pub behind : drop len text ≡ word ++ rest
 
 take_front : (xs ys : List ℕ) → take (length xs) (xs ++ ys) ≡ xs
 take_front [] ys = refl
@@ -48,19 +49,21 @@ drop_front : (xs ys : List ℕ) → drop (length xs) (xs ++ ys) ≡ ys
 drop_front [] ys = refl
 drop_front (x ∷ xs) ys = drop_front xs ys
 
-pub numbered : (text word rest : List ℕ) (number : ℕ) → ends_digits word ≡ true → number < 2 ^ 64 → text ≡ decimal number ++ (word ++ rest) → IsNumbered text word number rest
-numbered text word rest number ends few is =
+pub numbered : (text word rest : List ℕ) (number len : ℕ) → len ≡ length (take_while is_ascii_digit text) → ends_digits word ≡ true → number < 2 ^ 64 → text ≡ decimal number ++ (word ++ rest)
+    → IsNumbered text word number rest len
+numbered text word rest number len counted ends few is =
     let taken : take_while is_ascii_digit text ≡ decimal number = ap (take_while is_ascii_digit) is ∙ digits_taken (decimal number) word rest ends (decimal_digits number few) in
+    let size : len ≡ length (decimal number) = counted ∙ ap length taken in
     record {
-      digits = ap (λ n. take n text) (ap length taken) ∙ ap (take (length (decimal number))) is ∙ take_front (decimal number) (word ++ rest);
-      behind = ap (λ n. drop n text) (ap length taken) ∙ ap (drop (length (decimal number))) is ∙ drop_front (decimal number) (word ++ rest);
+      digits = ap (λ n. take n text) size ∙ ap (take (length (decimal number))) is ∙ take_front (decimal number) (word ++ rest);
+      behind = ap (λ n. drop n text) size ∙ ap (drop (length (decimal number))) is ∙ drop_front (decimal number) (word ++ rest);
     }
 
 -- the number that was read is the one that is there, and so is what comes behind it
-pub same_reading : (text word rest rest' : List ℕ) (number number' : ℕ) → ends_digits word ≡ true → number < 2 ^ 64 → number' < 2 ^ 64 → text ≡ decimal number ++ (word ++ rest)
-    → take (length (take_while is_ascii_digit text)) text ≡ decimal number' → drop (length (take_while is_ascii_digit text)) text ≡ word ++ rest' → (number' ≡ number) × (rest' ≡ rest)
-same_reading text word rest rest' number number' ends few less is digits behind =
-    let there = numbered text word rest number ends few is in (
+pub same_reading : (text word rest rest' : List ℕ) (number number' len : ℕ) → len ≡ length (take_while is_ascii_digit text) → ends_digits word ≡ true → number < 2 ^ 64 → number' < 2 ^ 64
+    → text ≡ decimal number ++ (word ++ rest) → take len text ≡ decimal number' → drop len text ≡ word ++ rest' → (number' ≡ number) × (rest' ≡ rest)
+same_reading text word rest rest' number number' len counted ends few less is digits behind =
+    let there = numbered text word rest number len counted ends few is in (
       same_number number' number less few (sym digits ∙ there.digits),
       append_cancel_left word rest' rest (sym behind ∙ there.behind),
     )
@@ -74,8 +77,9 @@ none_written digits number none few is =
     let z : ⊥ = cc in z
 
 -- digits that aren't those of the number that they write are those of no other
-pub other_written : (digits : List ℕ) (other number : ℕ) → Some other ≡ small_number digits → (decimal other ≡ digits → ⊥) → number < 2 ^ 64 → digits ≡ decimal number → ⊥
+pub other_written : (digits : List ℕ) (other number : ℕ) → Some other ≡ small_number digits → bytes_eq (decimal other) digits ≡ false → number < 2 ^ 64 → digits ≡ decimal number → ⊥
 other_written digits other number some differs few is =
     let there : small_number digits ≡ Some number = ap small_number is ∙ small_number-decimal number few in
     let same : other ≡ number = some_inj other number (some ∙ there) in
-    differs (ap decimal same ∙ sym is)
+    let alike : bytes_eq (decimal other) digits ≡ true = (bytes_eq-Decides (decimal other) digits).1 (ap decimal same ∙ sym is) in
+    let z : ⊥ = cc in z

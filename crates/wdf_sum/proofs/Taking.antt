@@ -75,14 +75,15 @@ pub record IsReadTo (input : List ℕ) (at : ℕ) (tables : Tables) (number : �
   pub number_is : number ≡ length lines + 1
   pub read : IsReadAs lines tables
   pub within : at ≤ length input
+  pub small : number ≤ at + 1
 
 pub nothing_read : (input : List ℕ) (tables : Tables) → IsReadAs [] tables → IsReadTo input 0 tables 1
-nothing_read input tables read = record { lines = []; are = refl; number_is = refl; read = read; within = omega arith }
+nothing_read input tables read = record { lines = []; are = refl; number_is = refl; read = read; within = omega arith; small = omega arith }
 
 pub one_read : (input line : List ℕ) (at number : ℕ) (old new : Tables) (before : IsReadTo input at old number) → at < length input → line ≡ first_line (drop at input)
-    → at + length line ≤ length input → ((l : TableLine) × (line_text l ≡ line) × IsReadAs (before.lines ++ l ∷ []) new)
+    → 0 < length line → at + length line ≤ length input → ((l : TableLine) × (line_text l ≡ line) × IsReadAs (before.lines ++ l ∷ []) new)
     → IsReadTo input (at + length line) new (number + 1)
-one_read input line at number old new before inside is within more =
+one_read input line at number old new before inside is longer within more =
     let there : trace_lines (drop at input) ≡ line ∷ trace_lines (drop (at + length line) input) =
     subst (λ (x : List ℕ). trace_lines (drop at input) ≡ x ∷ trace_lines (drop (at + length x) input)) (sym is) (line_there input at inside) in
     record {
@@ -95,6 +96,7 @@ one_read input line at number old new before inside is within more =
       number_is = let l = length-append before.lines (more.0 ∷ []) in omega (arith, before.number_is, l);
       read = more.2;
       within = within;
+      small = omega (arith, before.small, longer);
     }
 
 pub all_read : (input : List ℕ) (at number : ℕ) (tables : Tables) → length input ≤ at → IsReadTo input at tables number → IsReadWhole input tables number

@@ -19,17 +19,21 @@ pub record IsTableRow (row : Row) : Type 0 where
   pub seed_fits : row.seed < 2 ^ 64
   pub events_fit : row.events < 2 ^ 64
 
--- What the last line of a table says: one seed at least, none of them past the last seed, and numbers of 64 bits.
+-- What the last line of a table says: one seed at least, and none of them past the last seed.
 pub record IsTableEnd (s : Seeds) : Type 0 where
   pub some : 0 < s.count
   pub fits : s.from + s.count ≤ 2 ^ 64
+
+-- the same in numbers of 64 bits
+pub record IsSmallEnd (s : Seeds) : Type 0 where
+  pub proper : IsTableEnd s
   pub count_fits : s.count < 2 ^ 64
   pub events_fit : s.events < 2 ^ 64
 
 -- a line that a table may have
 abbrev pub IsTableLine : TableLine → Type 0
 IsTableLine (OfKind row) = IsTableRow row
-IsTableLine (Last s) = IsTableEnd s
+IsTableLine (Last s) = IsSmallEnd s
 
 -- The text of a line of a table, with its line feed.
 abbrev pub line_text : TableLine → List ℕ

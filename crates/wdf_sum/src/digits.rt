@@ -1,5 +1,5 @@
 //! Numbers at the front of a text.
-ghost use Rattle.std.specs.Prelude.{◌≡◌, ◌≢◌, ◌<◌, ◌≤◌, ◌^◌, ◌++◌, ℕ, List, IfNone, IfSome, IsTrue, MatchOption, bytes_eq, decimal, length};
+ghost use Rattle.std.specs.Prelude.{◌≡◌, ◌≢◌, ◌<◌, ◌≤◌, ◌^◌, ◌++◌, ℕ, List, IfNone, IfSome, MatchOption, bytes_eq, decimal, length, true};
 ghost use Rattle.std.specs.Char.{is_ascii_digit};
 ghost use Rattle.std.specs.List.{take_while};
 ghost use Rattle.wdf_sum.specs.Lines.{ends_digits};
@@ -44,14 +44,9 @@ fn number_of(digits: &[u8]) -> Option<u64>
 
 /// What comes after these bytes at a text's front.
 pub(crate) fn after<'a>(text: &'a [u8], front: &[u8]) -> Option<&'a [u8]>
-    ensures found { IfSome result (λ rest. text.now ≡ front.now ++ rest.now) }
-    ensures none { IfNone result ((rest : List ℕ) → text.now ≢ front.now ++ rest) }
+    ensures { MatchOption result ((rest : List ℕ) → text.now ≢ front.now ++ rest) (λ rest. text.now ≡ front.now ++ rest.now) }
 {
-    if text.len() >= front.len() && &text[..front.len()] == front {
-        Some(&text[front.len()..])
-    } else {
-        None
-    }
+    text.strip_prefix(front)
 }
 
 /// A number at the front of a text, and what comes behind it.
@@ -63,13 +58,12 @@ pub(crate) struct Numbered<'a> {
 
 /// The number at a text's front that these bytes come after, and what comes after them.
 pub(crate) fn number_before<'a>(text: &'a [u8], word: &[u8]) -> Option<Numbered<'a>>
-    requires { IsTrue (ends_digits word.now) }
+    requires { ends_digits word.now ≡ true }
     ensures found { IfSome result (λ it. text.now ≡ decimal it.number ++ (word.now ++ it.rest.now)) }
     ensures each { (number : ℕ) (rest : List ℕ) → number < 2 ^ 64 → text.now ≡ decimal number ++ (word.now ++ rest) → MatchOption result ⊥ (λ it. (it.number ≡ number) × (it.rest.now ≡ rest)) }
 {
     let len = digits_len(text);
-    match (number_of(&text[..len]), after(&text[len..], word)) {
-        (Some(number), Some(rest)) => Some(Numbered { number, rest }),
-        _ => None,
-    }
+    let number = number_of(&text[..len])?;
+    let rest = after(&text[len..], word)?;
+    Some(Numbered { number, rest })
 }

@@ -44,17 +44,16 @@ fn follow(ends: &[Seeds], from: u64) -> Result<(), Bad>
     ensures broken { IfErr result (IsBreak from ends.now) }
 {
     let mut done = 0;
-    for end in ends {
-        match end.why_apart(from, done) {
+    for k in 0..ends.len() {
+        match ends[k].why_apart(from, done) {
             Some(why) => {
                 return Err(Bad::AtLine {
-                    line: end.line,
+                    line: ends[k].line,
                     why,
                 });
             }
-            None => {}
+            None => done += ends[k].count,
         }
-        done += end.count;
     }
     Ok(())
 }

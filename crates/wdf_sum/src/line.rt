@@ -1,10 +1,10 @@
 //! A line of a table.
-ghost use Rattle.std.specs.Prelude.{◌≡◌, ◌≢◌, ◌+◌, ◌-◌, ◌==◌, ◌&&◌, ◌<◌, ◌^◌, ℕ, List, IfNone, IfOk, IfSome, MatchOption, nat_lt};
+ghost use Rattle.std.specs.Prelude.{◌≡◌, ◌≢◌, ◌+◌, ◌==◌, ◌&&◌, ◌<◌, ◌≤◌, ◌^◌, ℕ, List, IfNone, IfOk, IfSome, MatchOption, length, nat_lt, true};
 ghost use Rattle.wdf_table.specs.declared.row.Row.{Row};
 ghost use Rattle.wdf_sum.specs.declared.line.Seeds.{Seeds};
 ghost use Rattle.wdf_sum.specs.declared.line.TableLine.{TableLine};
 ghost use Rattle.wdf_run_text.specs.Lines.{fed};
-ghost use Rattle.wdf_sum.specs.Lines.{IsLineOf, IsTableEnd, IsTableLine, IsTableRow, end_words, line_text, row_words};
+ghost use Rattle.wdf_sum.specs.Lines.{IsLineOf, IsSmallEnd, IsTableEnd, IsTableLine, IsTableRow, end_words, line_text, row_words};
 
 use crate::digits::{after, number_before};
 use std::alloc::Global;
@@ -77,7 +77,8 @@ fn row_of(alloc: Global, parts: &RowParts<'_>) -> Result<Row, Memory>
 
 /// Whether so many seeds from one on end with another.
 fn is_range(from: u64, to: u64, count: u64) -> bool
-    ensures { result ≡ (nat_lt 0 count && to + 1 == from + count) }
+    ensures value { result ≡ (nat_lt 0 count && to + 1 == from + count) }
+    ensures fits { result ≡ true → from + count ≤ 2 ^ 64 }
 {
     count > 0 && to >= from && to - from == count - 1
 }
@@ -98,7 +99,8 @@ fn end_parts(text: &[u8]) -> Option<EndParts<'_>>
     ensures each { (from to count events : ℕ) (rest : List ℕ) → from < 2 ^ 64 → to < 2 ^ 64 → count < 2 ^ 64 → events < 2 ^ 64 → text.now ≡ end_words from to count events rest
         → MatchOption result ⊥ (λ it. (it.from ≡ from) × (it.to ≡ to) × (it.count ≡ count) × (it.events ≡ events) × (it.rest.now ≡ rest)) }
 {
-    let from = number_before(after(text, b"seeds ")?, b" to ")?;
+    let front = after(text, b"seeds ")?;
+    let from = number_before(front, b" to ")?;
     let to = number_before(from.rest, b": ")?;
     let count = number_before(to.rest, b" runs, ")?;
     let events = number_before(count.rest, b" events")?;
@@ -111,21 +113,33 @@ fn end_parts(text: &[u8]) -> Option<EndParts<'_>>
     })
 }
 
+/// Whether these are the numbers of a table's last line, and nothing comes after them.
+fn is_end(parts: &EndParts<'_>) -> bool
+    ensures value { result ≡ (length parts.now.rest.now == 0 && (nat_lt 0 parts.now.count && parts.now.to + 1 == parts.now.from + parts.now.count)) }
+    ensures fits { result ≡ true → parts.now.from + parts.now.count ≤ 2 ^ 64 }
+{
+    parts.rest.is_empty() && is_range(parts.from, parts.to, parts.count)
+}
+
 /// What the last line of a table says, where this is one, without its line feed.
 fn end_of(text: &[u8], line: usize) -> Option<Seeds>
     ensures found { IfSome result (λ s. IsTableEnd s × (line_text (TableLine.Last s) ≡ fed text.now) × (s.line ≡ line)) }
-    ensures none { IfNone result ((s : Seeds) → IsTableEnd s → line_text (TableLine.Last s) ≢ fed text.now) }
+    ensures none { IfNone result ((s : Seeds) → IsSmallEnd s → line_text (TableLine.Last s) ≢ fed text.now) }
 {
-    let parts = end_parts(text)?;
-    if parts.rest.is_empty() && is_range(parts.from, parts.to, parts.count) {
-        Some(Seeds {
-            from: parts.from,
-            count: parts.count,
-            events: parts.events,
-            line,
-        })
-    } else {
-        None
+    match end_parts(text) {
+        Some(parts) => {
+            if is_end(&parts) {
+                Some(Seeds {
+                    from: parts.from,
+                    count: parts.count,
+                    events: parts.events,
+                    line,
+                })
+            } else {
+                None
+            }
+        }
+        None => None,
     }
 }
 
