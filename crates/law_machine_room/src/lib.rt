@@ -18,7 +18,6 @@ ghost use Rattle.law_machine_room.specs.Kept.{RoomKept};
 
 /// At each place of every run of a resolved plan, the tables have their sizes, what grows has at most one item for each
 /// event, and what is named is there. (own)
-#[tactic(auto, using(crate::proofs::RoomLaws::room_is_kept))]
 pub fn room_is_kept<A>()
     ensures { (plan : Plan) (m : Meaning A) (run : List Event) → IsResolved plan → IsRunOf plan m run → (n : ℕ) → RoomKept plan (state_after plan m (take n run)) }
 {}

@@ -1,6 +1,6 @@
 //! What is done to a tree, with the answer that is due.
 use crate::facts::{Fact, holds};
-use wdf_base::{Callback, Kind, Life, ObjectId, Plan, Value};
+use wdf_base::{Callback, Kind, ObjectId, Plan, Value};
 use wdf_model::OBJECTS;
 use wdf_tree::{CreateRefusal, Subtree, Tree};
 
@@ -49,7 +49,7 @@ fn gathers(tree: &Tree, subtree: &mut Subtree, o: ObjectId, due: &[u32]) -> bool
 
 /// Cleans an object up; whether that may come.
 fn cleans(tree: &mut Tree, o: ObjectId) -> bool {
-    let may = tree.life(o) == Life::Asked;
+    let may = tree.life(o).is_asked();
     if may {
         tree.clean(o);
     }

@@ -2,3 +2,5 @@ pub mod Words
 pub mod Sums
 pub mod Explained
 pub mod Answers
+pub mod Cases
+pub mod Suites

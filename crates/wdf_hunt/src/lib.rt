@@ -9,10 +9,13 @@
 mod explain;
 mod read;
 mod story;
+mod suite;
 mod sum;
 mod table;
 mod top;
 mod words;
 
+pub use suite::{suite_line, unread_file_line};
 pub use top::hunt;
-pub use words::Form;
+pub use wdf_hunters::Progress;
+pub use words::{Form, Range, suite_of};

@@ -10,7 +10,7 @@ ghost use Rattle.wdf_parts.specs.Asking.{askable, asked};
 ghost use Rattle.wdf_model.specs.rules.Room.{HasRoomForObject, MayEnterIfQueued, MayGiveUp};
 
 use crate::parts::Parts;
-use wdf_base::{Agent, Kind, Life, Mark, ObjectId, Place, RequestForm, RequestInfo};
+use wdf_base::{Agent, Kind, Mark, ObjectId, Place, RequestForm, RequestInfo};
 use wdf_defer::{Dpcs, Timers, WorkItems};
 use wdf_tree::Tree;
 
@@ -27,7 +27,7 @@ fn ask_object(
         ≡ asked (askable tree.old dpcs.old work_items.old timers.old) o.0 }
     ensures size { length tree.new.nodes ≡ length tree.old.nodes }
 {
-    if tree.life(o) == Life::Live {
+    if tree.life(o).is_live() {
         tree.ask_one(o);
         let _was_queued = dpcs.cancel(o);
         let _was_queued = work_items.cancel(o);

@@ -4,7 +4,7 @@ use Rattle.std.specs.Prelude.{nat_lt, nat_le}
 use Rattle.std.proofs.lemmas.Bool.{and_from, and_parts, eq-eqb, eqb-true, false≢true, le-leb, le-ltb, leb-true, lt-ltb, ne_eqb}
 use Rattle.std.proofs.lemmas.List.{append-nil}
 use Rattle.std.proofs.lemmas.List.Elements.{filter-append}
-use Rattle.wdf_base.specs.Same.{same_kind, same_life}
+use Rattle.wdf_base.specs.Same.{same_kind}
 use Rattle.wdf_base.specs.declared.object.Kind.TheVariants as kind
 use Rattle.wdf_base.specs.declared.object.Life.{Life}
 use Rattle.wdf_base.specs.declared.object.Life.TheVariants as life
@@ -21,7 +21,7 @@ use Rattle.wdf_tree.specs.GoFirst.{go_first}
 use Rattle.wdf_tree.specs.Inside.{EndsAlone, ends_alone}
 use Rattle.wdf_tree.specs.Kin.{HoldsKin, is_kin, is_waiting, places, is_left}
 use Rattle.wdf_tree.proofs.Children.{same_place, left_children}
-use Rattle.wdf_tree.proofs.Kept.{all_of_entry, asked_as_same, asked_stands, cleaned_as_same}
+use Rattle.wdf_tree.proofs.Kept.{all_of_entry, asked_stands}
 use Rattle.wdf_tree.proofs.Kin.{on_places, place_on, places_by_ids}
 
 -- ---- rising ids
@@ -149,13 +149,6 @@ list_of_waiting ns family o parent h there few known mine waits =
     rw (h.kin q below) (on_places (is_kin is_waiting q) 0 ns o o (omega arith) there ∙ rw (← mine, ne_eqb parent q other) refl))
 
 -- ---- what goes first
-
--- what a test of a life says of an object, and of its parent
-pub cleaned_by : (T : Tree) (o : ℕ) (l : Life) → l ≡ life_of T o → is_cleaned (life_of T o) ≡ same_life l life.Cleaned
-cleaned_by T o l e = ap is_cleaned (sym e) ∙ sym (cleaned_as_same l)
-
-pub asked_above_by : (T : Tree) (o p : ℕ) (l : Life) → p ≡ parent_of T o → l ≡ life_of T p → is_asked (life_of T (parent_of T o)) ≡ same_life l life.Asked
-asked_above_by T o p l parent e = ap (λ q. is_asked (life_of T q)) (sym parent) ∙ ap is_asked (sym e) ∙ sym (asked_as_same l)
 
 pub first_left : (T : Tree) (o : ℕ) → is_cleaned (life_of T o) ≡ true → least (go_first T o) ≡ first_of (places (is_kin is_left o) 0 T.nodes)
 first_left T o cleaned =

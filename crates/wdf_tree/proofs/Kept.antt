@@ -11,7 +11,7 @@ use Rattle.wdf_base.specs.declared.ids.ObjectId.{ObjectId}
 use Rattle.wdf_base.specs.declared.object.Kind.TheVariants as kind
 use Rattle.wdf_base.specs.declared.object.Life.{Life}
 use Rattle.wdf_base.specs.declared.object.Life.TheVariants as life
-use Rattle.wdf_base.specs.Same.{same_kind, same_life}
+use Rattle.wdf_base.specs.Same.{same_kind}
 use Rattle.wdf_base.specs.Lives.{is_asked, is_cleaned, is_gone, is_live, is_past_cleanup}
 use Rattle.wdf_ilist.specs.Family.{Family, without}
 use Rattle.wdf_model.specs.Tables.{entry}
@@ -251,7 +251,7 @@ pub record IsLiving (l : Life) : Type 0 where
   pub gone : is_gone l ≡ false
   pub waits : is_past_cleanup l ≡ false
 
-pub live_stands : (l : Life) → same_life l life.Live ≡ true → IsLiving l
+pub live_stands : (l : Life) → is_live l ≡ true → IsLiving l
 live_stands life.Live h = record { live = refl; gone = refl; waits = refl }
 live_stands _ h = absurd (false≢true h)
 
@@ -266,15 +266,6 @@ none_live {ns} {ds} {count} {r} {s} {kin} {waiting} h = gone_off (entry gone ns 
 pub asked_stands : (l : Life) → is_asked l ≡ true → is_gone l ≡ false
 asked_stands life.Gone h = absurd (false≢true h)
 asked_stands _ h = refl
-
--- the tests of a life, as code makes them
-pub asked_as_same : (l : Life) → same_life l life.Asked ≡ is_asked l
-asked_as_same life.Live = refl
-asked_as_same _ = refl
-
-pub cleaned_as_same : (l : Life) → same_life l life.Cleaned ≡ is_cleaned l
-cleaned_as_same life.Live = refl
-cleaned_as_same _ = refl
 
 -- what is cleaned up is not gone
 cleaned_stands : (l : Life) → is_cleaned l ≡ true → is_gone l ≡ false

@@ -31,7 +31,7 @@ impl Tree {
         ensures done { self.new ≡ tree.ask_one self.old o.0 }
         ensures size { length self.new.nodes ≡ length self.old.nodes }
     {
-        if self.life(o) == Life::Live {
+        if self.life(o).is_live() {
             self.nodes[o.0 as usize].life = Life::Asked;
             self.asked.put(o.0, true);
             note_around(&mut self.turns, &self.nodes, &self.waiting, o, None);
@@ -102,14 +102,14 @@ impl Tree {
     /// Whether the cleanup of an object may come, by lives alone: its deletion was asked, no child
     /// waits for cleanup, and, where the deletion of its parent was asked too, no younger sibling
     /// does (own).
-    #[tactic(auto, using(crate::proofs::Kept::there_if_asked, crate::proofs::Kept::asked_as_same))]
+    #[tactic(auto, using(crate::proofs::Kept::there_if_asked))]
     pub fn may_clean(&self, o: ObjectId) -> bool
         ensures { result ≡ tree.may_clean self.now o.0 }
     {
-        if self.life(o) != Life::Asked || !self.are_children_clean(o) {
+        if !self.life(o).is_asked() || !self.are_children_clean(o) {
             return false;
         }
-        self.life(self.parent(o)) != Life::Asked || self.are_younger_clean(o)
+        !self.life(self.parent(o)).is_asked() || self.are_younger_clean(o)
     }
 
     /// The cleanup of an object is done.
@@ -131,11 +131,11 @@ impl Tree {
 
     /// Whether an object may be destroyed, by the tree alone: its cleanup is done, no reference is
     /// held, and no child is left (KMDF).
-    #[tactic(auto, using(crate::proofs::Kept::there_if_cleaned, crate::proofs::Kept::cleaned_as_same))]
+    #[tactic(auto, using(crate::proofs::Kept::there_if_cleaned))]
     pub fn may_destroy(&self, o: ObjectId) -> bool
         ensures { result ≡ tree.may_destroy self.now o.0 }
     {
-        self.life(o) == Life::Cleaned && self.references(o) == 0 && self.has_no_child(o)
+        self.life(o).is_cleaned() && self.references(o) == 0 && self.has_no_child(o)
     }
 
     /// An object is destroyed, and nothing of it is kept.

@@ -8,7 +8,7 @@ ghost use Rattle.wdf_sets.specs.Members.{is_in};
 ghost use Rattle.wdf_tree.specs.Turns.{AreNoted, ends_of, is_end as is_end_by};
 
 use super::Tree;
-use wdf_base::{Life, ObjectId};
+use wdf_base::ObjectId;
 use wdf_ilist::Links;
 use wdf_maps::object_at;
 use wdf_model::Node;
@@ -16,14 +16,11 @@ use wdf_sets::IdSet;
 
 /// Whether an object may be destroyed: it is cleaned up, the driver holds no reference to it, and no child of it is
 /// left.
-#[tactic(auto, using(crate::proofs::Kept::cleaned_as_same))]
 fn is_end(nodes: &[Node], children: &Links, o: ObjectId) -> bool
     ensures { result ≡ is_end_by nodes.now children.now.lists o.0 }
 {
     match nodes.get(o.0 as usize) {
-        Some(node) => {
-            node.life == Life::Cleaned && node.references == 0 && children.is_empty(o.0)
-        }
+        Some(node) => { node.life.is_cleaned() && node.references == 0 && children.is_empty(o.0) }
         None => false,
     }
 }

@@ -71,7 +71,7 @@ fn declared_node(declared: &Declared) -> Node
 pub(super) fn counted(node: &Node) -> u32
     ensures { result ≡ (if tree.counts node.now then 1 else 0) }
 {
-    if node.life != Life::Gone && node.kind != Kind::Request {
+    if !node.life.is_gone() && node.kind != Kind::Request {
         1
     } else {
         0
@@ -191,7 +191,7 @@ impl Tree {
         ensures answer { result ≡ create_answer self.old parent.0 }
         ensures done { self.new ≡ (if is_ok result then tree.create self.old kind class parent.0 else self.old) }
     {
-        if self.life(parent) != Life::Live {
+        if !self.life(parent).is_live() {
             return Err(CreateRefusal::ParentDeleted);
         }
         if self.is_full() {

@@ -5,7 +5,7 @@ ghost use Rattle.wdf_model.specs.Tables.{least};
 ghost use Rattle.wdf_tree.specs.GoFirst.{go_first};
 
 use super::Tree;
-use wdf_base::{Life, ObjectId};
+use wdf_base::ObjectId;
 use wdf_maps::lesser_if;
 
 impl Tree {
@@ -14,11 +14,11 @@ impl Tree {
         requires there { o.0 < length self.now.nodes }
         ensures { result ≡ least (go_first self.now o.0) }
     {
-        if self.life(o) == Life::Cleaned {
+        if self.life(o).is_cleaned() {
             return self.children.front(o.0);
         }
         let child = self.waiting.front(o.0);
-        if self.life(self.parent(o)) != Life::Asked {
+        if !self.life(self.parent(o)).is_asked() {
             return child;
         }
         lesser_if(child, self.waiting.after(o.0))

@@ -39,14 +39,13 @@ fn parent_in(nodes: &[Node], o: ObjectId) -> ObjectId
 
 /// Whether an object's turn has come: its deletion was asked, no child of it waits for cleanup, and, where
 /// the deletion of its parent was asked too, it is the last child that does.
-#[tactic(auto, using(crate::proofs::Kept::asked_as_same))]
 fn is_turn(nodes: &[Node], waiting: &Links, o: ObjectId) -> bool
     ensures { result ≡ is_turn_by nodes.now waiting.now.lists o.0 }
 {
     let parent = parent_in(nodes, o);
-    life_in(nodes, o) == Life::Asked
+    life_in(nodes, o).is_asked()
         && waiting.is_empty(o.0)
-        && (life_in(nodes, parent) != Life::Asked || is_id(waiting.back(parent.0), o.0))
+        && (!life_in(nodes, parent).is_asked() || is_id(waiting.back(parent.0), o.0))
 }
 
 /// Notes whether an object's turn has come.

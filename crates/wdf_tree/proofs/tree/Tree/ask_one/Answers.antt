@@ -1,6 +1,4 @@
 use Rattle.std.proofs.Common.{◌≡◌, ◌<◌, true, length, refl, sym, ap, ◌∙◌, arith}
-use Rattle.wdf_base.specs.declared.object.Life.TheVariants as life
-use Rattle.wdf_base.specs.Same.{same_life}
 use Rattle.wdf_base.specs.Lives.{is_live}
 use Rattle.wdf_model.specs.Tables.{entry}
 use Rattle.wdf_model.specs.declared.entries.Node.{Node}
@@ -16,9 +14,9 @@ invariant_of-self c =
     let there : c.args.o.0 < length c.self.inside.nodes.items = let e = ap (λ (t : Tree). length t.nodes) c.self.view_is in omega arith in
     let read : (entry gone c.self.inside.nodes.items c.args.o.0).life ≡ c.index_mut.result.now.life
     = ap (λ (n : Node). n.life) (read_entry gone c.self.inside.nodes.items c.args.o.0 c.index_mut.result.now there c.index_mut.ensures.value) in
-    let same : same_life c.life.result life.Live ≡ true = sym c.eq.ensures ∙ c.if-eq.true in
+    let live : is_live c.life.result ≡ true = sym c.is_live.ensures ∙ c.if-is_live.true in
     let whose : c.index_mut.result.now.life ≡ c.life.result = sym read ∙ ap (λ (t : Tree). life_of t c.args.o.0) c.self.view_is ∙ sym c.life.ensures in
-    let stays = live_stands c.index_mut.result.now.life (rw whose same) in
+    let stays = live_stands c.index_mut.result.now.life (rw whose live) in
     record {
       kept = kept_by_write _ c.index_mut.result.now _ c.self.invariant.kept there c.index_mut.ensures.value (record { kind = refl; parent = refl; gone = sym stays.gone }) (sym stays.waits);
       leaving = rw c.put.ensures (leaving_by_ask _ _ c.self.invariant.leaving c.self.invariant.kept.few there (ap is_live read ∙ stays.live) refl);

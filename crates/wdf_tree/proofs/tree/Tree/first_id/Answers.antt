@@ -1,7 +1,4 @@
 use Rattle.std.proofs.Common.{◌≡◌, true, false, List, Some, length, option_and_then, refl, sym, ap, subst, ◌∙◌, arith}
-use Rattle.std.proofs.lemmas.Bool.{not-true, not-false}
-use Rattle.wdf_base.specs.declared.object.Life.TheVariants as life
-use Rattle.wdf_base.specs.Same.{same_life}
 use Rattle.wdf_base.specs.Lives.{is_asked, is_cleaned}
 use Rattle.wdf_ilist.specs.Family.{after_on, first_of, list_at, list_of}
 use Rattle.wdf_model.specs.declared.entries.Node.{Node}
@@ -9,29 +6,29 @@ use Rattle.wdf_model.specs.parts.Tree.{Tree, life_of, parent_of}
 use Rattle.wdf_tree.specs.Kin.{HoldsKin, is_kin, is_left, is_waiting, places}
 use Rattle.wdf_maps.specs.Least.{lesser_if}
 use Rattle.wdf_tree.specs.Inside.{EndsAlone}
-use Rattle.wdf_tree.proofs.Firsts.{asked_above_by, cleaned_by, first_child, first_left, first_of_both, list_of_waiting, waits_under_asked}
+use Rattle.wdf_tree.proofs.Firsts.{first_child, first_left, first_of_both, list_of_waiting, waits_under_asked}
 use Rattle.wdf_tree.proofs.Kept.{there_if_asked}
 use Rattle.wdf_tree.proofs.tree.Tree.first_id.Goals as goal
 
-pub returns-then-eq : goal.returns-then-eq
-returns-then-eq c =
+pub returns-then-is_cleaned : goal.returns-then-is_cleaned
+returns-then-is_cleaned c =
     let V : Tree = c.args.self.now in
     let o = c.args.o.0 in
     let view : c.self.inside.nodes.items ≡ V.nodes = ap (λ (t : Tree). t.nodes) c.self.view_is in
     let few = ap (λ (ns : List Node). length ns) view in
-    let cleaned : is_cleaned (life_of V o) ≡ true = cleaned_by V o c.life.result c.life.ensures ∙ sym c.eq.ensures ∙ c.if-eq.true in
+    let cleaned : is_cleaned (life_of V o) ≡ true = ap is_cleaned (sym c.life.ensures) ∙ sym c.is_cleaned.ensures ∙ c.if-is_cleaned.true in
     let kids : list_at c.self.inside.children.lists o ≡ places (is_kin is_left o) 0 V.nodes = c.self.invariant.kept.kin.kin o (omega arith) ∙ ap (places (is_kin is_left o) 0) view in
     c.front.ensures.first ∙ ap first_of kids ∙ sym (first_left V o cleaned)
 
-pub returns-then-ne : goal.returns-then-ne
-returns-then-ne c =
+pub returns-then-not-is_asked : goal.returns-then-not-is_asked
+returns-then-not-is_asked c =
     let V : Tree = c.args.self.now in
     let o = c.args.o.0 in
     let view : c.self.inside.nodes.items ≡ V.nodes = ap (λ (t : Tree). t.nodes) c.self.view_is in
     let few = ap (λ (ns : List Node). length ns) view in
-    let cleaned : is_cleaned (life_of V o) ≡ false = cleaned_by V o c.life.result c.life.ensures ∙ sym c.eq.ensures ∙ c.if-eq.false in
+    let cleaned : is_cleaned (life_of V o) ≡ false = ap is_cleaned (sym c.life.ensures) ∙ sym c.is_cleaned.ensures ∙ c.if-is_cleaned.false in
     let mine : list_at c.self.inside.waiting.lists o ≡ places (is_kin is_waiting o) 0 V.nodes = c.self.invariant.kept.waiting_kin.kin o (omega arith) ∙ ap (places (is_kin is_waiting o) 0) view in
-    let asked : is_asked (life_of V (parent_of V o)) ≡ false = asked_above_by V o c.parent.result.0 c.life-2.result c.parent.ensures c.life-2.ensures ∙ not-true (same_life c.life-2.result life.Asked) (sym c.ne.ensures ∙ c.if-ne.true) in
+    let asked : is_asked (life_of V (parent_of V o)) ≡ false = ap (λ q. is_asked (life_of V q)) (sym c.parent.ensures) ∙ ap is_asked (sym c.life-2.ensures) ∙ sym c.is_asked.ensures ∙ c.if-not-is_asked.true in
     c.front-child.ensures.first ∙ ap first_of mine ∙ sym (first_child V o cleaned asked)
 
 pub returns : goal.returns
@@ -40,9 +37,9 @@ returns c =
     let o = c.args.o.0 in
     let view : c.self.inside.nodes.items ≡ V.nodes = ap (λ (t : Tree). t.nodes) c.self.view_is in
     let few = ap (λ (ns : List Node). length ns) view in
-    let cleaned : is_cleaned (life_of V o) ≡ false = cleaned_by V o c.life.result c.life.ensures ∙ sym c.eq.ensures ∙ c.if-eq.false in
+    let cleaned : is_cleaned (life_of V o) ≡ false = ap is_cleaned (sym c.life.ensures) ∙ sym c.is_cleaned.ensures ∙ c.if-is_cleaned.false in
     let mine : list_at c.self.inside.waiting.lists o ≡ places (is_kin is_waiting o) 0 V.nodes = c.self.invariant.kept.waiting_kin.kin o (omega arith) ∙ ap (places (is_kin is_waiting o) 0) view in
-    let asked : is_asked (life_of V (parent_of V o)) ≡ true = asked_above_by V o c.parent.result.0 c.life-2.result c.parent.ensures c.life-2.ensures ∙ not-false (same_life c.life-2.result life.Asked) (sym c.ne.ensures ∙ c.if-ne.false) in
+    let asked : is_asked (life_of V (parent_of V o)) ≡ true = ap (λ q. is_asked (life_of V q)) (sym c.parent.ensures) ∙ ap is_asked (sym c.life-2.ensures) ∙ sym c.is_asked.ensures ∙ c.if-not-is_asked.false in
     let kin = subst (λ ns. HoldsKin is_waiting ns c.self.inside.waiting) view c.self.invariant.kept.waiting_kin in
     let waits = waits_under_asked V.nodes o (subst EndsAlone view c.self.invariant.kept.ends) c.requires.there cleaned asked in
     let above = there_if_asked V.nodes (parent_of V o) asked in

@@ -3,8 +3,8 @@ use Rattle.std.proofs.Common.{◌+◌, ◌-◌, ◌++◌, ap, ◌∙◌, arith}
 use Rattle.rand_core.specs.Steps.{stream_of}
 use Rattle.rand_xoshiro.specs.SplitMix64.{splitmix_steps}
 use Rattle.wdf_run.specs.Seeds.{next_words}
-use Rattle.wdf_shrink.proofs.NextWords.{none_yet, one_more, none_left}
-use Rattle.wdf_shrink.proofs.words.words_of_seed.Goals as goal
+use Rattle.wdf_tries.proofs.NextWords.{none_yet, one_more, none_left}
+use Rattle.wdf_tries.proofs.moving.words_of_seed.Goals as goal
 
 pub loop-turn-init : goal.loop-turn-init
 loop-turn-init c =

@@ -1,29 +1,13 @@
-//! The words of a seed as picks, and the places that picks name.
-ghost use Rattle.std.specs.Prelude.{◌≡◌, IfOk};
-ghost use Rattle.wdf_run.specs.Seeds.{seed_words};
+//! The places that picks name.
 ghost use Rattle.wdf_scene.specs.Naming.{HasProperNames};
 ghost use Rattle.wdf_scene.specs.Written.{IsScene};
 
-use rand_core::{Rng, SeedableRng};
-use rand_xoshiro::SplitMix64;
 use std::alloc::Global;
 use wdf_base::Memory;
 use wdf_core::Core;
 use wdf_dev::AnyAgent;
 use wdf_scene::Scene;
 use wdf_tries::opened;
-
-/// The first words of a seed, so many.
-pub(crate) fn words_of_seed(alloc: Global, seed: u64, count: u32) -> Result<Vec<u64>, Memory>
-    ensures { IfOk result (λ words. words.items ≡ seed_words seed count) }
-{
-    let mut words = Vec::new(alloc);
-    let mut stream = SplitMix64::seed_from_u64(seed);
-    for _turn in 0..count {
-        words.push(stream.next_u64())?;
-    }
-    Ok(words)
-}
 
 /// The places that words name in a run on a core, one after the other, until no event may follow.
 fn places_on(alloc: Global, core: &mut Core<AnyAgent>, words: &[u64]) -> Result<Vec<u64>, Memory> {

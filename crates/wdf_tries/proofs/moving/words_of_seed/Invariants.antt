@@ -3,7 +3,7 @@ use Rattle.std.proofs.Common.{◌≡◌, ◌-◌, ◌++◌}
 use Rattle.rand_core.specs.Steps.{stream_of}
 use Rattle.rand_xoshiro.specs.SplitMix64.{splitmix_steps}
 use Rattle.wdf_run.specs.Seeds.{next_words}
-use Rattle.wdf_shrink.proofs.words.words_of_seed.Given as goal
+use Rattle.wdf_tries.proofs.moving.words_of_seed.Given as goal
 
 abbrev pub invariant-loop-turn : goal.invariant-loop-turn
 invariant-loop-turn l =
