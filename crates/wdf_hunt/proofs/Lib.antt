@@ -2,3 +2,4 @@ pub mod Ranges
 pub mod Told
 pub mod Explained
 pub mod Added
+pub mod Suites
