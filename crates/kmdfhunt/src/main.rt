@@ -12,6 +12,7 @@
 mod progress;
 mod suite;
 
+use progress::Line;
 use std::alloc::{AllocError, Global};
 use std::env::Args;
 use std::io::IsTerminal;
@@ -19,7 +20,6 @@ use std::process::ExitCode;
 use std::rt::Files;
 use std::thread::Threads;
 use std::{env, io};
-use progress::Line;
 use suite::tell_suite;
 use wdf_hunt::{Progress, hunt, suite_of};
 use wdf_io::{ReadSource, Sink, Source, WriteSink};
@@ -49,12 +49,7 @@ fn takes_no_progress(words: &mut Vec<String>) -> bool {
 }
 
 /// Serves these words, and answers the status to end with.
-fn serve<
-    R: Threads + Sync + Files + AllocGlobal + Clone + Drop,
-    S: Source,
-    K: Sink,
-    P: Progress,
->(
+fn serve<R: Threads + Sync + Files + AllocGlobal + Clone + Drop, S: Source, K: Sink, P: Progress>(
     rt: &R,
     words: &[String],
     source: &mut S,
@@ -75,13 +70,7 @@ fn main(rt: HostRuntime) -> ExitCode {
         Ok(mut words) => {
             let is_quiet = takes_no_progress(&mut words);
             let mut line = Line::new(&rt, !is_quiet && rt.stderr().is_terminal());
-            serve(
-                &rt,
-                words.as_slice(),
-                &mut source,
-                &mut sink,
-                &mut line,
-            )
+            serve(&rt, words.as_slice(), &mut source, &mut sink, &mut line)
         }
         Err(_) => NO_MEMORY,
     };

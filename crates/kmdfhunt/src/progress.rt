@@ -39,7 +39,9 @@ impl<'a, R: Clock + Eprint> Line<'a, R> {
         let _ = if done == count {
             eprint!(self.rt; "\r\x1b[K")
         } else {
-            eprint!(self.rt; "\r{done} of {count} seeds, {a_second} a second, {left} s left, {kinds} kinds\x1b[K")
+            eprint!(self.rt;
+                "\r{done} of {count} seeds, {a_second} a second, {left} s left, {kinds} kinds\x1b[K"
+            )
         };
     }
 }

@@ -294,6 +294,9 @@ fn each_run_has_the_kind_that_is_due(rt: HostRuntime) {
 #[test]
 fn each_comment_that_cant_be_read_is_named(rt: HostRuntime) {
     for (text, line) in &UNREAD {
-        assert!(rt; matches!(read(rt.alloc(), text), Err(found) if found == *line), "at {text:?}");
+        assert!(rt;
+            matches!(read(rt.alloc(), text), Err(found) if found == *line),
+            "at {text:?}"
+        );
     }
 }

@@ -29,7 +29,7 @@ pub record IsFoundTo (text : List ℕ) (at number : ℕ) (es : List Expectation)
 found_here : (text : List ℕ) (at number len : ℕ) (es : List Expectation) → IsFoundTo text at number es → at < length text
     → len ≡ length (take_while is_inside (take (length text - at) (drop at text)))
     → expectations_from 1 (lines_of text)
-      ≡ after_found es (with_comment number (comment_of (comment_in (take len (take (length text - at) (drop at text))))) (expectations_from (suc number) (lines_of (drop (at + (len + 1)) text))))
+    ≡ after_found es (with_comment number (comment_of (comment_in (take len (take (length text - at) (drop at text))))) (expectations_from (suc number) (lines_of (drop (at + (len + 1)) text))))
 found_here text at number len es so_far inside long =
     so_far.found ∙ ap (λ ls. after_found es (expectations_from number ls)) (lines_there text at len inside long)
     ∙ ap (λ l. after_found es (with_comment number (comment_of (comment_in l)) (expectations_from (suc number) (lines_of (drop (at + (len + 1)) text))))) (sym (line_there text at len long))

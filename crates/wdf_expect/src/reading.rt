@@ -126,11 +126,7 @@ fn add(found: &mut Vec<Expectation>, expectation: Expectation) -> Result<(), Exp
 }
 
 /// Takes what the comments of a text say, line by line.
-fn take_lines(
-    alloc: Global,
-    found: &mut Vec<Expectation>,
-    text: &[u8],
-) -> Result<(), ExpectError>
+fn take_lines(alloc: Global, found: &mut Vec<Expectation>, text: &[u8]) -> Result<(), ExpectError>
     requires small { length text.now ≤ TEXT_LIMIT }
     requires none { found.old.items ≡ [] }
     ensures taken { OnOk result (expectations_from 1 (lines_of text.now) ≡ Ok found.new.items) }

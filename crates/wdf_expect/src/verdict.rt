@@ -119,9 +119,13 @@ fn first_broken<'a>(
 ) -> Option<&'a Expectation>
     ensures { option_copied result ≡ first_broken plan.now events.now expected whole expectations.now }
 {
-    expectations
-        .iter()
-        .find(|expectation| is_broken(plan, events, expected, whole, &expectation.rule))
+    expectations.iter().find(|expectation| is_broken(
+        plan,
+        events,
+        expected,
+        whole,
+        &expectation.rule,
+    ))
 }
 
 fn rule_word(rule: &Rule) -> &'static [u8]

@@ -85,13 +85,7 @@ fn fault_at(fault: Option<Fault>, line: Option<u64>) -> Option<Wanted>
 }
 
 /// A fault in a line of the text.
-fn placed_wanted(
-    word: &Text,
-    name: &Text,
-    at: &Text,
-    line: &Text,
-    number: &Text,
-) -> Option<Wanted>
+fn placed_wanted(word: &Text, name: &Text, at: &Text, line: &Text, number: &Text) -> Option<Wanted>
     ensures { result ≡ placed_wanted word.now name.now at.now line.now number.now }
 {
     if word.is(b"fault") && at.is(b"at") && line.is(b"line") {

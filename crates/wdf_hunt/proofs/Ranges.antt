@@ -4,7 +4,7 @@ use Rattle.std.specs.Option.{option_and_then}
 use Rattle.std.proofs.lemmas.Bool.Decides.{nat_tests}
 use Rattle.wdf_top.specs.Words.{number_word}
 use Rattle.wdf_hunt.specs.declared.words.Form.{Form}
-use Rattle.wdf_hunt.specs.declared.words.Form.TheVariants.{Seeds, Shrink}
+use Rattle.wdf_hunt.specs.declared.words.Form.TheVariants.{Seeds, Shrink, Sum, Explain}
 use Rattle.wdf_hunt.specs.Words.{seeds_form, form_with_number, form_with_numbers, form_of_words, jitter_in}
 
 -- a range of seeds
@@ -53,9 +53,15 @@ with_numbers word n m j = by_word (bytes_eq word (codes "seeds")) n m j
 with_number : (word : List ℕ) (n j : ℕ) → NamesRange (form_with_number word n j)
 with_number word n j = no_shrink (bytes_eq word (codes "shrink")) n j
 
+-- one word alone asks for no table
+no_word : (a b : Bool) → NamesRange (if a then Some Sum else (if b then Some Explain else None))
+no_word true b from count jitter same = absurd (let z : ⊥ = cc in z)
+no_word false true from count jitter same = absurd (let z : ⊥ = cc in z)
+no_word false false = no_form
+
 pub range_of_form : (words : List (List ℕ)) → NamesRange (form_of_words words)
 range_of_form [] = no_form
-range_of_form (word ∷ []) = no_form
+range_of_form (word ∷ []) = no_word (bytes_eq word (codes "sum")) (bytes_eq word (codes "explain"))
 range_of_form (word ∷ a ∷ []) = by_some (λ n. form_with_number word n 0) (number_word a) (λ n. with_number word n 0)
 range_of_form (word ∷ a ∷ b ∷ []) =
     by_some (λ n. option_and_then (λ m. form_with_numbers word n m 0) (number_word b)) (number_word a)

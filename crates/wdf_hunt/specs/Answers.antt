@@ -14,11 +14,13 @@ use Rattle.wdf_tries.specs.declared.tried.Case.{Case}
 use Rattle.wdf_tries.specs.Tries.{AreTries, events_of, moved_case, scene_for}
 use Rattle.wdf_shrink.specs.Stories.{IsStoryOfSeed}
 use Rattle.wdf_shrink.specs.Texts.{story_text}
+use Rattle.wdf_hunt.specs.Explained.{explaining}
+use Rattle.wdf_hunt.specs.Sums.{TellsSum}
 use Rattle.wdf_hunt.specs.declared.words.Form.{Form}
-use Rattle.wdf_hunt.specs.declared.words.Form.TheVariants.{Seeds, Shrink}
+use Rattle.wdf_hunt.specs.declared.words.Form.TheVariants.{Seeds, Shrink, Sum, Explain}
 
 abbrev pub usage_line : List ℕ
-usage_line = codes "usage: kmdfhunt seeds FROM COUNT [jitter TICKS] | shrink N [jitter TICKS] | test FOLDER [FROM COUNT]\n"
+usage_line = codes "usage: kmdfhunt seeds FROM COUNT [jitter TICKS] | shrink N [jitter TICKS] | test FOLDER [FROM COUNT] | sum | explain\n"
 
 -- the line of a comment that begins with `#!` and can't be read
 abbrev pub unread_line : ℕ → List ℕ
@@ -74,3 +76,5 @@ abbrev pub Tells : Option Form → Sourcing → Sinking → ℕ → Type 0
 Tells None s k answer = IsUnread s × Says k usage_line 2 answer
 Tells (Some (Seeds from count jitter)) s k answer = TellsBy (seeking from count jitter) s k answer
 Tells (Some (Shrink seed jitter)) s k answer = TellsBy (shrinking seed jitter) s k answer
+Tells (Some Sum) s k answer = TellsSum s k answer
+Tells (Some Explain) s k answer = TellsBy explaining s k answer

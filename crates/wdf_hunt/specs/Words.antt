@@ -4,13 +4,20 @@ use Rattle.std.specs.Option.{option_and_then}
 use Rattle.wdf_top.specs.Words.{number_word}
 use Rattle.wdf_jitter.specs.declared.moved.TheConstants.{LAST_TICK}
 use Rattle.wdf_hunt.specs.declared.words.Form.{Form}
-use Rattle.wdf_hunt.specs.declared.words.Form.TheVariants.{Seeds, Shrink}
+use Rattle.wdf_hunt.specs.declared.words.Form.TheVariants.{Seeds, Shrink, Sum, Explain}
 use Rattle.wdf_hunt.specs.declared.words.Range.{Range}
 
 -- a range of seeds: one at least and less than 2 ^ 32, and none of them past the last seed
 abbrev pub seeds_form : ℕ → ℕ → ℕ → Option Form
 seeds_form from count jitter =
     if nat_lt 0 count && nat_lt count (2 ^ 32) && nat_le (from + count) (2 ^ 64) then Some (Seeds from count jitter) else None
+
+-- the form of one word alone
+abbrev pub form_of_word : List ℕ → Option Form
+form_of_word word =
+    if bytes_eq word (codes "sum") then Some Sum
+    else (if bytes_eq word (codes "explain") then Some Explain
+    else None)
 
 -- the form of a word with a number and a jitter after it
 abbrev pub form_with_number : List ℕ → ℕ → ℕ → Option Form
@@ -30,6 +37,7 @@ jitter_in word most = option_and_then (jitter_of word) (number_word most)
 
 -- the form that the words ask for, if they are one
 abbrev pub form_of_words : List (List ℕ) → Option Form
+form_of_words (word ∷ []) = form_of_word word
 form_of_words (word ∷ number ∷ []) = option_and_then (λ n. form_with_number word n 0) (number_word number)
 form_of_words (word ∷ from ∷ count ∷ []) = option_and_then (λ n. option_and_then (λ m. form_with_numbers word n m 0) (number_word count)) (number_word from)
 form_of_words (word ∷ number ∷ jitter ∷ most ∷ []) = option_and_then (λ n. option_and_then (form_with_number word n) (jitter_in jitter most)) (number_word number)

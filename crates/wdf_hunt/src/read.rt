@@ -7,6 +7,7 @@ ghost use Rattle.wdf_top.specs.Causes.{IsCause, all_of};
 ghost use Rattle.wdf_top.specs.Top.{IsRead, sourcing};
 ghost use Rattle.wdf_expect.specs.Reading.{IsErrorOf, expectations_of};
 ghost use Rattle.wdf_hunt.specs.Cases.{IsCaseRefusal, IsReadCase, case_refusal_line};
+ghost use Rattle.wdf_hunt.specs.Sums.{IsReadCauseOf};
 
 use std::alloc::Global;
 use wdf_expect::{ExpectError, expectations_of};
@@ -40,6 +41,19 @@ impl CaseRefusal {
             }
         }
     }
+}
+
+/// Reads the whole input.
+///
+/// # Errors
+///
+/// [`Refusal`]: a read failed, the input is longer than it may be, or memory was refused.
+pub(crate) fn read_text<S: Source>(alloc: Global, source: &mut S) -> Result<Vec<u8>, Refusal>
+    ensures text { IfOk result (λ text. IsRead (sourcing (S.left source.old) (S.left source.new) (S.faults source.old) (S.faults source.new)) text.items) }
+    ensures cause { IfErr result (IsReadCauseOf (sourcing (S.left source.old) (S.left source.new) (S.faults source.old) (S.faults source.new))) }
+{
+    let text = read_whole(alloc, source)?;
+    Ok(text)
 }
 
 /// Reads the whole input, and its scene, which has a plan.

@@ -7,8 +7,10 @@ ghost use Rattle.wdf_hunt.specs.Answers.{Tells, seeking, shrinking, with_jitter}
 ghost use Rattle.wdf_hunt.specs.Cases.{case_refusal_line, case_refusal_status};
 ghost use Rattle.wdf_hunt.specs.Words.{form_of_words};
 
+use crate::explain::explain;
 use crate::read::{CaseRefusal, read_case};
 use crate::story::tell_story;
+use crate::sum::add_tables;
 use crate::table::tell_table;
 use crate::words::{Form, form_of};
 use std::alloc::Global;
@@ -20,7 +22,7 @@ use wdf_tries::Case;
 
 /// What is written for words of no form.
 const USAGE: &[u8] =
-    b"usage: kmdfhunt seeds FROM COUNT [jitter TICKS] | shrink N [jitter TICKS] | test FOLDER [FROM COUNT]\n";
+    b"usage: kmdfhunt seeds FROM COUNT [jitter TICKS] | shrink N [jitter TICKS] | test FOLDER [FROM COUNT] | sum | explain\n";
 
 /// The status of words of no form.
 const USAGE_STATUS: u8 = 2;
@@ -110,6 +112,12 @@ fn shrink<S: Source, K: Sink>(
 /// `shrink N` reads a scenario, and looks for plain picks whose run is of the kind of the seed's run, with no more events.
 /// It writes the scenario in canonical form with an `order` block of these picks. The status is 0.
 ///
+/// `sum` reads tables that `seeds` wrote for separate ranges, and writes the table of all their seeds, with the status that `seeds`
+/// would have. It refuses, with the status 6, the first line that is wrong.
+///
+/// `explain` reads a scenario, a line `trace` and a trace, as `kmdfsim replay` does, and writes the story of the trace's ending. The
+/// status is 0; where `replay` refuses the trace, its line is written, with its status.
+///
 /// With `jitter TICKS` each seed moves each `at` line by up to so many ticks to later, by the words that come after its picks,
 /// one for each line of the scenario; and what `shrink` writes has the moved ticks.
 ///
@@ -133,12 +141,16 @@ pub fn hunt<R: Threads + Sync, S: Source, K: Sink, P: Progress>(
     ensures not_again { result ≡ 13 → EndsRefused K.refused K.faults sink.old sink.new }
 {
     match form_of(words) {
-        Some(Form::Seeds {
-            from,
-            count,
-            jitter,
-        }) => seek(rt, alloc, from, count, jitter, source, sink, progress),
+        Some(
+            Form::Seeds {
+                from,
+                count,
+                jitter,
+            },
+        ) => seek(rt, alloc, from, count, jitter, source, sink, progress),
         Some(Form::Shrink { seed, jitter }) => shrink(alloc, seed, jitter, source, sink),
+        Some(Form::Sum) => add_tables(alloc, source, sink),
+        Some(Form::Explain) => explain(alloc, source, sink),
         None => say(sink, USAGE, USAGE_STATUS),
     }
 }

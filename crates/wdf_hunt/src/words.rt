@@ -1,6 +1,6 @@
 //! The words of the program.
 ghost use Rattle.std.specs.Prelude.{◌≡◌, ◌+◌, ◌≤◌, ◌^◌, IfSome, map, string_bytes};
-ghost use Rattle.wdf_hunt.specs.Words.{form_of_words, form_with_number, form_with_numbers, jitter_in, jitter_of, numbers_range, seeds_form, suite_of_words};
+ghost use Rattle.wdf_hunt.specs.Words.{form_of_word, form_of_words, form_with_number, form_with_numbers, jitter_in, jitter_of, numbers_range, seeds_form, suite_of_words};
 
 use wdf_jitter::LAST_TICK;
 use wdf_top::number_word;
@@ -13,6 +13,10 @@ pub enum Form {
     Seeds { from: u64, count: u32, jitter: u32 },
     /// Make the run of this seed plain, and write the scenario that it runs with the picks of the plain run.
     Shrink { seed: u64, jitter: u32 },
+    /// Add tables.
+    Sum,
+    /// Write the story of a trace's ending.
+    Explain,
 }
 
 /// A range has fewer seeds than this.
@@ -28,6 +32,19 @@ fn seeds_form(from: u64, count: u64, jitter: u32) -> Option<Form>
             count: count as u32,
             jitter,
         })
+    } else {
+        None
+    }
+}
+
+/// The form of one word alone.
+fn form_of_word(word: &str) -> Option<Form>
+    ensures { result ≡ form_of_word word.now }
+{
+    if word == "sum" {
+        Some(Form::Sum)
+    } else if word == "explain" {
+        Some(Form::Explain)
     } else {
         None
     }
@@ -79,6 +96,7 @@ pub(crate) fn form_of(words: &[String]) -> Option<Form>
     ensures { result ≡ form_of_words (map string_bytes words.now) }
 {
     match words {
+        [word] => form_of_word(word.as_str()),
         [word, number] => form_with_number(word.as_str(), number_word(number.as_bytes())?, 0),
         [word, from, count] => form_with_numbers(
             word.as_str(),

@@ -5,7 +5,7 @@ ghost use Rattle.wdf_model.specs.rules.Waits.{wait_list};
 ghost use Rattle.wdf_tries.specs.Tries.{ending_kind, kind_of};
 
 use std::alloc::Global;
-use wdf_base::{Agent, Event, Memory, WaitLine};
+use wdf_base::{Agent, Memory, WaitLine};
 use wdf_core::Core;
 use wdf_expect::{Expectation, judged};
 use wdf_kinds::{kind_text, line_of_fault};
@@ -31,17 +31,6 @@ fn waits_of<A: Agent>(alloc: Global, core: &Core<A>) -> Result<Vec<WaitLine>, Me
         waits.push(core.wait_at(k))?;
     }
     Ok(waits)
-}
-
-/// The events of a run.
-fn events_of<A: Agent>(alloc: Global, core: &Core<A>) -> Result<Vec<Event>, Memory>
-    ensures { IfOk result (λ events. events.items ≡ core.now.journal) }
-{
-    let mut events = Vec::new(alloc);
-    for k in 0..core.journal_len() {
-        events.push(core.journal_at(k))?;
-    }
-    Ok(events)
 }
 
 /// The kind in which the run of a core ends, whatever is expected.
@@ -71,12 +60,11 @@ pub fn kind_of<A: Agent>(
     ensures { IfOk result (λ kind. kind ≡ kind_of expectations.now core.now.plan A.meaning core.now.journal) }
 {
     let kind = ending_kind(alloc, core)?;
-    let events = events_of(alloc, core)?;
     judged(
         alloc,
         expectations,
         core.plan(),
-        events.as_slice(),
+        core.journal(),
         core.ending(),
         fault_line(core),
         kind.bytes(),
