@@ -1,5 +1,5 @@
 //! How far a hunt is, as a line on standard error.
-use std::rt::Eprint;
+use std::io::Eprint;
 use std::time::{Clock, Instant};
 use wdf_hunt::Progress;
 
@@ -10,6 +10,7 @@ const LEAST_ROUND: u32 = 256;
 const ROUNDS_A_SECOND: u64 = 4;
 
 /// A line that is written again after each round, where one is wanted.
+#[derive(Drop)]
 pub(crate) struct Line<'a, R> {
     rt: &'a R,
     /// Since when the hunt goes on; `None` where no line is wanted.
@@ -35,13 +36,12 @@ impl<'a, R: Clock + Eprint> Line<'a, R> {
 
     /// Writes the line anew, or wipes it where all is done. Where standard error fails, there is no line.
     fn write(&self, done: u32, count: u32, a_second: u64, kinds: usize) {
+        let rt = self.rt;
         let left = u64::from(count.saturating_sub(done)) / a_second.max(1);
-        let _ = if done == count {
-            eprint!(self.rt; "\r\x1b[K")
+        let _written = if done == count {
+            eprint!(rt; "\r\x1b[K")
         } else {
-            eprint!(self.rt;
-                "\r{done} of {count} seeds, {a_second} a second, {left} s left, {kinds} kinds\x1b[K"
-            )
+            eprint!(rt; "\r{done} of {count} seeds, {a_second} a second, {left} s left, {kinds} kinds\x1b[K")
         };
     }
 }
@@ -61,8 +61,9 @@ impl<'a, R: Clock + Eprint> Progress for Line<'a, R> {
         let Ok(time) = began.elapsed(self.rt) else {
             return;
         };
-        let millis = u64::try_from(time.as_millis()).unwrap_or(u64::MAX).max(1);
-        let a_second = u64::from(done) * 1000 / millis;
+        let millis = time.as_secs().saturating_mul(1000);
+        let millis = millis.saturating_add(u64::from(time.subsec_millis()));
+        let a_second = u64::from(done) * 1000 / millis.max(1);
         let round = u32::try_from(a_second / ROUNDS_A_SECOND).unwrap_or(u32::MAX);
         self.round = round.max(LEAST_ROUND);
         self.write(done, count, a_second, kinds);
