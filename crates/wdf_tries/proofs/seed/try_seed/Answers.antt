@@ -2,7 +2,7 @@
 use Rattle.std.proofs.Common.{◌≡◌, IfOk, subst, ◌∙◌}
 use Rattle.wdf_base.specs.declared.plan.Plan.{Plan}
 use Rattle.wdf_tries.specs.Tries.{IsTryBy}
-use Rattle.wdf_tries.proofs.Moving.{unmoved_plan}
+use Rattle.wdf_tries.proofs.Unmoved.{unmoved_plan}
 use Rattle.wdf_tries.proofs.seed.try_seed.Goals as goal
 
 pub returns-then-case-eq0-clause-row : goal.returns-then-case-eq0-clause-row
