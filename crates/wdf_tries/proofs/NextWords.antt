@@ -1,5 +1,5 @@
 -- The words of a stream, one more at the end of a list.
-use Rattle.std.proofs.Common.{ℕ, zero, suc, ◌≡◌, ◌+◌, ◌-◌, ◌<◌, List, [], ◌∷◌, ◌++◌, refl, sym, ap, ◌∙◌, arith, append_assoc, append-nil}
+use Rattle.std.proofs.Common.{ℕ, zero, suc, ◌≡◌, ◌+◌, ◌-◌, ◌<◌, List, [], ◌∷◌, ◌++◌, refl, sym, ap, ◌∙◌, arith, append_assoc, append-nil, length}
 use Rattle.rand_core.specs.Stream.{Stream, next_u64}
 use Rattle.wdf_run.specs.Seeds.{next_words}
 
@@ -25,3 +25,9 @@ one_more count k words all s t x less is so_far =
 pub none_left : (count k : ℕ) (words all : List ℕ) (s : Stream) → count - k ≡ 0 → words ++ next_words (count - k) s ≡ all → words ≡ all
 unfolding next_words
 none_left count k words all s none so_far = sym (append-nil words) ∙ (rw none at so_far)
+
+-- how many words there are
+pub words_len : (count : ℕ) (s : Stream) → length (next_words count s) ≡ count
+unfolding next_words
+words_len zero s = refl
+words_len (suc count) s = ap suc (words_len count (next_u64 s).1)

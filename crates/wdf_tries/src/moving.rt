@@ -1,5 +1,5 @@
 //! The scene that a seed runs.
-ghost use Rattle.std.specs.Prelude.{◌≡◌, ◌+◌, IfOk, drop};
+ghost use Rattle.std.specs.Prelude.{◌≡◌, ◌+◌, IfOk, drop, length};
 ghost use Rattle.wdf_run.specs.Seeds.{seed_words};
 ghost use Rattle.wdf_scene.specs.Naming.{HasProperNames};
 ghost use Rattle.wdf_scene.specs.Written.{IsScene};
@@ -20,7 +20,8 @@ use wdf_scene::Scene;
 ///
 /// [`Memory`] where memory was refused.
 pub fn words_of_seed(alloc: Global, seed: u64, count: u64) -> Result<Vec<u64>, Memory>
-    ensures { IfOk result (λ words. words.items ≡ seed_words seed count) }
+    ensures words { IfOk result (λ words. words.items ≡ seed_words seed count) }
+    ensures length { IfOk result (λ words. length words.items ≡ count) }
 {
     let mut words = Vec::new(alloc);
     let mut stream = SplitMix64::seed_from_u64(seed);
@@ -45,7 +46,8 @@ pub(crate) fn scene_for(alloc: Global, case: &Case, seed: u64) -> Result<Scene, 
     let limit = limit_of(alloc, &case.scene)?;
     let count = u64::from(limit) + u64::from(case.scene.line_len());
     let words = words_of_seed(alloc, seed, count)?;
-    moved_scene(alloc, case.jitter, &words[limit as usize..], &case.scene)
+    let (_, moving) = words.as_slice().split_at(limit as usize);
+    moved_scene(alloc, case.jitter, moving, &case.scene)
 }
 
 /// The case of the scene that a seed of a case runs: nothing of it is moved any more.

@@ -8,6 +8,6 @@ loop-k-preserved c = record {
   so_far = one_more c.args.case.now c.args.from c.loop-k.k c.loop-k.tally c.add.new.self c.loop-k.events c.in_ok-row.row c.loop-k.invariant.so_far
       (rw c.from.ensures at c.in_ok-row.ensures.row) c.in_ok-add.ensures.tally;
   seeds = omega (arith, c.in_ok-add.ensures.seeds, c.loop-k.invariant.seeds, c.in_ok-row.ensures.one);
-  plan = c.try_seed-row.ensures.plan ∙ c.loop-k.invariant.plan;
+  plan = c.try_seed.ensures.plan ∙ c.loop-k.invariant.plan;
   few = omega (arith, c.loop-k.invariant.few, c.in_ok-row.ensures.few);
 }
