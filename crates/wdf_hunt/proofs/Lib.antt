@@ -3,3 +3,4 @@ pub mod Told
 pub mod Explained
 pub mod Added
 pub mod Suites
+pub mod Stories
