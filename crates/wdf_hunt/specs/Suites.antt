@@ -24,7 +24,7 @@ IsSceneOf text scene = StandsFor text scene × (first_refusal scene ≡ None)
 
 -- a text's case, in which nothing is moved
 abbrev pub IsCaseOf : List ℕ → Case → Type 0
-IsCaseOf text tried = IsSceneOf text tried.scene × (expectations_of text ≡ Ok tried.expectations) × (tried.jitter ≡ 0) × (tried.jitter ≡ 0)
+IsCaseOf text tried = IsSceneOf text tried.scene × (expectations_of text ≡ Ok tried.expectations) × (tried.jitter ≡ 0)
 
 -- why a text has none
 abbrev pub IsNoCase : List ℕ → CaseRefusal → Type 0
