@@ -27,7 +27,7 @@ use Rattle.law_touched.proofs.Groups.{offers_alike}
 use Rattle.law_touched.proofs.Same.{apart}
 
 module _ {A : Type 0} (plan : Plan) (m : Meaning A) (S : State A) (agree : FramesAgree S) (owned : StepsOwned plan S) where
-  ranked : StepsRanked S
+  pub ranked : StepsRanked S
   ranked d c None at = (owned.next d (step.Run c None) at).0
   ranked d c (Some i) at = (owned.next d (step.Run c (Some i)) at).0
 

@@ -19,7 +19,7 @@ ghost use Rattle.wdf_model.specs.rules.Ready.{IsRunOf, allowed, ready, state_aft
 ghost use Rattle.wdf_model.specs.rules.Steps.{after, may};
 ghost use Rattle.law_machine_base.specs.OverRuns.{FramesAgree};
 ghost use Rattle.law_machine_once.specs.Owned.{StepsOwned};
-ghost use Rattle.law_touched.specs.Touched.{is_own_of, offers, touches};
+ghost use Rattle.law_touched.specs.Touched.{is_own_of, offers, touches, touches_beside_agents};
 
 /// In every run, a group that an event doesn't touch offers the same events before and after it, whatever event may
 /// follow.
@@ -43,6 +43,13 @@ pub fn untouched_groups_stay_in_a_state<A>()
 pub fn groups_stay_that_no_tick_touches<A>()
     ensures { (plan : Plan) (m : Meaning A) (S : State A) (time : ℕ) (g : Group) → FramesAgree S → StepsOwned plan S
         → touches plan S (event.Tick time) g ≡ false → offers plan m S g ≡ offers plan m (after plan m S (event.Tick time)) g }
+{}
+
+/// Where no agent changes by an event, it touches no group by what agents show or have due.
+#[tactic(auto, using(crate::proofs::Unheard::untouched_unheard))]
+pub fn groups_stay_where_agents_do<A>()
+    ensures { (plan : Plan) (m : Meaning A) (S : State A) (e : Event) (g : Group) → FramesAgree S → StepsOwned plan S → may plan m S e ≡ true
+        → S.agents ≡ (after plan m S e).agents → touches_beside_agents plan S e g ≡ false → offers plan m S g ≡ offers plan m (after plan m S e) g }
 {}
 
 /// A `let`, an `if` or a `repeat` touches the own event of its processor and no other group.
