@@ -1,5 +1,5 @@
 -- An event by which no agent changes touches no group by its agents.
-use Rattle.std.proofs.Common.{if◌then◌else◌, ◌≡◌, Bool, true, false, not, ◌||◌, List, [], ◌∷◌, filter, refl, ap, sym, ◌∙◌}
+use Rattle.std.proofs.Common.{if◌then◌else◌, ◌≡◌, Bool, true, false, not, List, [], ◌∷◌, filter, refl, ap}
 use Rattle.wdf_base.specs.Meaning.{Meaning}
 use Rattle.wdf_base.specs.declared.plan.Plan.{Plan}
 use Rattle.wdf_base.specs.declared.event.Event.{Event}

@@ -297,3 +297,15 @@ offers plan m S g = filter (may plan m S) (candidates_in plan m S g)
 abbrev pub is_own_of : ℕ → Group → Bool
 is_own_of cpu (group.OwnEvent on) = cpu == on
 is_own_of cpu _ = false
+
+-- group g reads the agents or the clock, and so what a tick changes
+abbrev pub is_of_time : Group → Bool
+-- frames that spend, and reads of registers
+is_of_time (group.OwnEvent cpu) = true
+-- level lines
+is_of_time (group.Starts cpu rank.Isr) = true
+-- timers that are reached
+is_of_time (group.Starts cpu rank.Timed) = true
+-- what agents have due
+is_of_time group.Posts = true
+is_of_time _ = false
