@@ -1,2 +1,4 @@
 pub mod Ranges
 pub mod Told
+pub mod Explained
+pub mod Added
