@@ -5,6 +5,7 @@ ghost use Rattle.std.specs.List.{take_while};
 ghost use Rattle.wdf_sum.specs.Lines.{ends_digits};
 
 use itoa::Buffer;
+use wdf_run_text::from_place;
 use wdf_text::small_number;
 
 /// How many decimal digits a text begins with.
@@ -64,6 +65,6 @@ pub(crate) fn number_before<'a>(text: &'a [u8], word: &[u8]) -> Option<Numbered<
 {
     let len = digits_len(text);
     let number = number_of(&text[..len])?;
-    let rest = after(&text[len..], word)?;
+    let rest = after(from_place(text, len), word)?;
     Some(Numbered { number, rest })
 }
