@@ -1,11 +1,11 @@
 -- The rows of tables stand for the entries of those tables.
-use Rattle.std.proofs.Common.{ℕ, ◌≡◌, ◌⊎◌, inl, inr, Bool, true, cond, List, ◌++◌, get_or, ◌∙◌, arith}
-use Rattle.std.specs.List.{All, Contains}
+use Rattle.std.proofs.Common.{◌≡◌, ◌⊎◌, inl, inr, true, cond, List, ◌++◌, get_or, arith}
+use Rattle.std.specs.List.{Contains}
 use Rattle.std.proofs.lemmas.List.Elements.{All-append, All-contains, All-weaker, Contains-append_left, Contains-append_right, Contains-append_cases, Contains-get_or}
 use Rattle.std.proofs.lemmas.List.Sums.{sum_by-append}
 use Rattle.wdf_table.specs.declared.row.Row.{Row}
 use Rattle.wdf_table.specs.Rows.{is_of, is_as_plain}
-use Rattle.wdf_table.specs.Tables.{seeds_in, IsNamedBy, IsBest, IsTallyOf}
+use Rattle.wdf_table.specs.Tables.{seeds_in, IsBest, IsTallyOf}
 use Rattle.wdf_table.proofs.Merging.{tally_behind}
 
 turned : (xs ys : List Row) (row : Row) → Contains xs row ⊎ Contains ys row → Contains (ys ++ xs) row

@@ -1,5 +1,5 @@
 -- Ranges that follow one another.
-use Rattle.std.proofs.Common.{◌≡◌, ℕ, ◌+◌, ◌<◌, ◌≤◌, ◌^◌, ◌⊎◌, inl, inr, Bool, true, false, nat_lt, List, [], ◌∷◌, ◌++◌, length, take, drop, get_or, sum_by, Option, Some, None, slice_get, Result, Ok, Err, IfErr, refl, sym, subst, ap, ◌∙◌, arith}
+use Rattle.std.proofs.Common.{◌≡◌, ℕ, ◌+◌, ◌<◌, ◌≤◌, ◌⊎◌, inl, inr, Bool, true, false, nat_lt, List, length, take, get_or, Some, slice_get, Result, Ok, Err, IfErr, refl, sym, ap, ◌∙◌, arith}
 use Rattle.std.specs.List.Sorted.{IsPermutation, IsSorted}
 use Rattle.std.specs.Cmp.{IsStrictWeakOrder, IsTotalOrder}
 use Rattle.std.specs.Ordering.{is_lt, nat_cmp}
@@ -13,7 +13,7 @@ use Rattle.wdf_sum.specs.declared.line.Seeds.{Seeds}
 use Rattle.wdf_sum.specs.declared.refused.Bad.{Bad}
 use Rattle.wdf_sum.specs.declared.refused.Bad.TheVariants.{NoMemory, AtLine}
 use Rattle.wdf_sum.specs.Lines.{count_of}
-use Rattle.wdf_sum.specs.Sums.{AreNoRange, Follow, HasBreak, IsApart, IsNoRangeFrom, seeds_cmp}
+use Rattle.wdf_sum.specs.Sums.{AreNoRange, Follow, IsNoRangeFrom, seeds_cmp}
 
 -- the ranges before this place follow one another from here on
 abbrev pub FollowTo : ℕ → ℕ → List Seeds → Type 0

@@ -1,5 +1,5 @@
 -- What lines of tables come to that were all of an input.
-use Rattle.std.proofs.Common.{◌≡◌, ◌≢◌, ℕ, ◌+◌, ◌<◌, ◌≤◌, ◌^◌, ◌==◌, ◌||◌, ◌⊎◌, inl, inr, Bool, true, false, not, List, [], ◌∷◌, length, take, get_or, map, Option, Some, slice_get, refl, sym, subst, ap, ◌∙◌, arith}
+use Rattle.std.proofs.Common.{◌≡◌, ◌≢◌, ℕ, ◌+◌, ◌<◌, ◌≤◌, ◌^◌, ◌==◌, ◌||◌, ◌⊎◌, inl, inr, Bool, true, false, not, List, [], ◌∷◌, length, take, get_or, map, Some, slice_get, refl, sym, subst, ap, ◌∙◌, arith}
 use Rattle.std.specs.List.{All}
 use Rattle.std.proofs.lemmas.Bool.{eq-eqb, eqb-true}
 use Rattle.std.proofs.lemmas.List.{take_all}
@@ -8,7 +8,6 @@ use Rattle.std.proofs.lemmas.List.Sorted.{sum_by-IsPermutation, All-permutation}
 use Rattle.std.proofs.lemmas.List.Sums.{sum_by-cons}
 use Rattle.std.proofs.lemmas.Option.{slice_get-get_or}
 use Rattle.wdf_run_text.specs.Lines.{trace_lines}
-use Rattle.wdf_table.specs.Tables.{all_seeds}
 use Rattle.wdf_sum.specs.declared.line.Seeds.{Seeds}
 use Rattle.wdf_sum.specs.declared.line.TableLine.{TableLine}
 use Rattle.wdf_sum.specs.declared.refused.Why.{Why}
@@ -17,8 +16,8 @@ use Rattle.wdf_sum.specs.declared.refused.Bad.{Bad}
 use Rattle.wdf_sum.specs.declared.refused.Bad.TheVariants.{NoMemory, AtLine}
 use Rattle.wdf_sum.specs.declared.sum.Sum.{Sum}
 use Rattle.wdf_sum.specs.declared.tables.Tables.{Tables}
-use Rattle.wdf_sum.specs.Lines.{IsTableEnd, line_text, rows_in, ends_in, count_of, events_of}
-use Rattle.wdf_sum.specs.Sums.{AreApart, AreJoined, AreNoRange, HasApart, IsNoSum, IsReadWhole, IsRefusedAt, IsSumOf, StopsAt}
+use Rattle.wdf_sum.specs.Lines.{IsTableEnd, line_text, ends_in, count_of}
+use Rattle.wdf_sum.specs.Sums.{AreApart, AreJoined, AreNoRange, IsNoSum, IsReadWhole, IsRefusedAt, IsSumOf, StopsAt}
 use Rattle.wdf_sum.proofs.Joining.{counted_more}
 
 -- ---- joined ranges

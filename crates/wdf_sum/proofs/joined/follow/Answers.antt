@@ -1,6 +1,6 @@
 -- A range more, or all of them.
-use Rattle.std.proofs.Common.{arith, ◌∙◌, sym, ap, ◌+◌, get_or}
-use Rattle.wdf_sum.proofs.Joining.{counted_more, counted_within, follow_all, follow_more}
+use Rattle.std.proofs.Common.{arith, ◌∙◌, ap, ◌+◌}
+use Rattle.wdf_sum.proofs.Joining.{counted_more, follow_all, follow_more}
 use Rattle.wdf_sum.proofs.joined.follow.Goals as goal
 
 pub loop-k-preserved : goal.loop-k-preserved
