@@ -175,12 +175,7 @@ fn push_do(out: &mut Text, plan: &Plan, call: &Call) -> Result<(), Memory>
 }
 
 /// Adds bytes and a value.
-fn push_with_value(
-    out: &mut Text,
-    plan: &Plan,
-    front: &[u8],
-    value: Value,
-) -> Result<(), Memory>
+fn push_with_value(out: &mut Text, plan: &Plan, front: &[u8], value: Value) -> Result<(), Memory>
     ensures { OnOk result (out.new ≡ out.old ++ (front.now ++ value_text plan.now value)) }
 {
     out.push(front)?;
