@@ -223,17 +223,27 @@ abbrev pub turn_if_any : ℕ → ℕ → Option Event → Turn
 turn_if_any cpu n None = turn.Stays
 turn_if_any cpu n (Some e) = turn_of cpu n e
 
--- the frame with so many above it, by the last turn and by what was before it
-abbrev pub by_turn : (ℕ → Option ℕ) → ℕ → Turn → Option ℕ
-by_turn before zero (turn.Comes f) = Some f
-by_turn before (suc depth) (turn.Comes f) = before depth
-by_turn before depth turn.Goes = before (suc depth)
-by_turn before depth turn.Stays = before depth
+-- the frame that comes by a turn, where none is to be above it
+abbrev pub found : Turn → ℕ → Option ℕ
+found (turn.Comes f) depth = if depth == 0 then Some f else None
+found _ depth = None
+
+-- how many frames are above it before a turn, where so many are after it
+abbrev pub depth_before : Turn → ℕ → ℕ
+depth_before (turn.Comes f) depth = depth - 1
+depth_before turn.Goes depth = depth + 1
+depth_before turn.Stays depth = depth
+
+-- a frame that was found, else another one
+abbrev pub or_else : Option ℕ → Option ℕ → Option ℕ
+or_else (Some f) other = Some f
+or_else None other = other
 
 -- The frame with so many above it on a processor, after the first events of a run, so many: looked for backwards.
 abbrev pub frame_under : ℕ → List Event → ℕ → ℕ → Option ℕ
 frame_under cpu run zero depth = None
-frame_under cpu run (suc n) depth = by_turn (frame_under cpu run n) depth (turn_if_any cpu (suc n) (slice_get run n))
+frame_under cpu run (suc n) depth =
+    or_else (found (turn_if_any cpu (suc n) (slice_get run n)) depth) (frame_under cpu run n (depth_before (turn_if_any cpu (suc n) (slice_get run n)) depth))
 
 -- the frame of an event with this number, where it has a processor
 abbrev pub frame_on : List Event → ℕ → Option Cpu → Option ℕ

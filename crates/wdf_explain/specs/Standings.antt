@@ -62,7 +62,14 @@ life_text life.Asked = codes " Its deletion was asked."
 life_text life.Cleaned = codes " It is cleaned up."
 life_text life.Gone = codes " It is gone."
 
+-- who has an object, and how far its cancel has come
+unfoldable pub who_text : Plan → List Event → Standing → List ℕ
+who_text plan run s = having_text plan run s.object s.having ++ mark_text s.mark
+
+-- its references, and how far its deletion has come
+unfoldable pub kept_text : Standing → List ℕ
+kept_text s = references_text s.references ++ life_text s.life
+
 -- How an object is, in one line.
-abbrev pub standing_text : Plan → List Event → Standing → List ℕ
-standing_text plan run s =
-    object_text plan s.object ++ codes ":" ++ having_text plan run s.object s.having ++ mark_text s.mark ++ references_text s.references ++ life_text s.life ++ codes "\n"
+unfoldable pub standing_text : Plan → List Event → Standing → List ℕ
+standing_text plan run s = object_text plan s.object ++ codes ":" ++ who_text plan run s ++ kept_text s ++ codes "\n"

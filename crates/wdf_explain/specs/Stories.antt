@@ -2,6 +2,7 @@
 use Rattle.std.specs.Prelude.{if◌then◌else◌, ℕ, ◌+◌, ◌-◌, Bool, true, false, List, [], ◌∷◌, ◌++◌, codes, decimal, length, Option, Some, None, slice_get}
 use Rattle.wdf_base.specs.declared.plan.Plan.{Plan}
 use Rattle.wdf_base.specs.declared.ids.Cpu.{Cpu}
+use Rattle.wdf_base.specs.declared.ids.Handle.{Handle}
 use Rattle.wdf_base.specs.declared.event.Event.{Event}
 use Rattle.wdf_base.specs.declared.event.Event.TheVariants as event
 use Rattle.wdf_base.specs.declared.event.Ending.{Ending}
@@ -14,7 +15,7 @@ use Rattle.wdf_base.specs.declared.wait.OpenThing.TheVariants as thing
 use Rattle.wdf_base.specs.declared.wait.WaitLine.{WaitLine}
 use Rattle.wdf_base.specs.Words.{callback_word, fault_word}
 use Rattle.wdf_lines.specs.Endings.{wait_text}
-use Rattle.wdf_lines.specs.Lines.{cpu_text, object_text}
+use Rattle.wdf_lines.specs.Lines.{object_text}
 use Rattle.wdf_explain.specs.declared.told.Doing.{Doing}
 use Rattle.wdf_explain.specs.declared.told.Standing.{Standing}
 use Rattle.wdf_explain.specs.declared.asked.Asked.TheVariants.{About, Moves, OnCpu}
@@ -26,15 +27,22 @@ use Rattle.wdf_explain.specs.Words.{intent_text}
 
 -- ---- a fault
 
+-- the heading of the events about an object
+unfoldable pub heading_text : Plan → Handle → List ℕ
+heading_text plan o = codes "The last events about " ++ object_text plan o ++ codes ":\n"
+
 -- an object at the end of a run, and the last events about it
 abbrev pub object_story : Plan → List Event → Option Standing → List ℕ
 object_story plan run None = []
-object_story plan run (Some s) =
-    standing_text plan run s ++ codes "The last events about " ++ object_text plan s.object ++ codes ":\n" ++ event_lines plan run (last_of (numbers_of (About s.object.id) run))
+object_story plan run (Some s) = standing_text plan run s ++ heading_text plan s.object ++ event_lines plan run (last_of (numbers_of (About s.object.id) run))
+
+-- the heading of the events on a processor
+unfoldable pub cpu_heading : Cpu → List ℕ
+cpu_heading cpu = codes "The last events on cpu" ++ decimal cpu.0 ++ codes ":\n"
 
 -- the last events on a processor
 abbrev pub cpu_story : Plan → List Event → Cpu → List ℕ
-cpu_story plan run cpu = codes "The last events on " ++ cpu_text cpu ++ codes ":\n" ++ event_lines plan run (last_of (numbers_of (OnCpu cpu) run))
+cpu_story plan run cpu = cpu_heading cpu ++ event_lines plan run (last_of (numbers_of (OnCpu cpu) run))
 
 -- a frame is about to make a call
 abbrev pub is_call : Intent → Bool
@@ -46,25 +54,50 @@ abbrev pub objects_story : Plan → List Event → Doing → List ℕ
 objects_story plan run d =
     if is_call d.intent then object_story plan run d.first ++ object_story plan run d.second ++ object_story plan run d.third else cpu_story plan run d.cpu
 
+-- the callback of a frame
+unfoldable pub callback_text : Plan → Doing → List ℕ
+callback_text plan d = callback_word d.callback ++ (codes " of " ++ object_text plan d.object ++ codes " began on cpu")
+
+-- its processor, and the event with which it began
+unfoldable pub began_text : Doing → List ℕ
+began_text d = decimal d.cpu.0 ++ (codes " with event " ++ decimal d.number.0 ++ codes ". It was about to ")
+
+-- what it was about to do
+unfoldable pub about_text : Plan → Doing → List ℕ
+about_text plan d = intent_text plan d.intent ++ codes ".\n"
+
 -- the callback of a frame, and what it was about to do
-abbrev pub doing_text : Plan → Doing → List ℕ
-doing_text plan d =
-    callback_word d.callback ++ codes " of " ++ object_text plan d.object ++ codes " began on " ++ cpu_text d.cpu ++ codes " with event " ++ decimal d.number.0 ++ codes ". It was about to "
-    ++ intent_text plan d.intent ++ codes ".\n"
+unfoldable pub doing_text : Plan → Doing → List ℕ
+doing_text plan d = callback_text plan d ++ began_text d ++ about_text plan d
 
 -- what a frame was about to do, and how the objects are that it names
 abbrev pub doing_story : Plan → List Event → Option Doing → List ℕ
 doing_story plan run None = []
 doing_story plan run (Some d) = doing_text plan d ++ objects_story plan run d
 
+-- how many events there were
+unfoldable pub ended_text : ℕ → List ℕ
+ended_text events = codes "The run of " ++ decimal events ++ codes " events ended in the fault "
+
+-- a fault and its line
+unfoldable pub place_text : Fault → ℕ → List ℕ
+place_text f line = fault_word f ++ (codes " at line " ++ decimal line ++ codes ".\n")
+
+-- its rule
+unfoldable pub rule_line : Fault → List ℕ
+rule_line f = codes "The rule: " ++ rule_text f ++ codes "\n"
+
 -- how many events there were, and a fault with its line and its rule
-abbrev pub fault_text : ℕ → Fault → ℕ → List ℕ
-fault_text events f line =
-    codes "The run of " ++ decimal events ++ codes " events ended in the fault " ++ fault_word f ++ codes " at line " ++ decimal line ++ codes ".\nThe rule: " ++ rule_text f ++ codes "\n"
+unfoldable pub fault_text : ℕ → Fault → ℕ → List ℕ
+fault_text events f line = ended_text events ++ place_text f line ++ rule_line f
+
+-- the story of a fault
+unfoldable pub told_fault : Plan → List Event → Option Doing → Fault → ℕ → List ℕ
+told_fault plan run d f line = fault_text (length run) f line ++ doing_story plan run d
 
 -- the story of the fault that an event is
 abbrev pub fault_story : Plan → List Event → Option Doing → Option Event → List ℕ
-fault_story plan run d (Some (event.Fault cpu f line)) = fault_text (length run) f line ++ doing_story plan run d
+fault_story plan run d (Some (event.Fault cpu f line)) = told_fault plan run d f line
 fault_story plan run d _ = []
 
 -- ---- a stuck run
@@ -89,19 +122,29 @@ abbrev pub see_text : Option ℕ → List ℕ
 see_text None = []
 see_text (Some i) = codes " See line " ++ decimal i ++ codes "."
 
+-- a line of the wait list with this number
+unfoldable pub numbered_text : Plan → ℕ → WaitLine → List ℕ
+numbered_text plan n w = decimal n ++ (codes ": " ++ wait_text plan w ++ codes "\n")
+
+-- why it is open, and the line for which it waits
+unfoldable pub open_text : List WaitLine → WaitLine → List ℕ
+open_text waits w = codes "  " ++ why_text w ++ see_text (next_of waits w) ++ codes "\n"
+
 -- a line of the wait list with this number, why it is open, and the line for which it waits
-abbrev pub wait_story : Plan → List Event → List WaitLine → ℕ → WaitLine → List ℕ
-wait_story plan run waits n w =
-    decimal n ++ codes ": " ++ wait_text plan w ++ codes "\n  " ++ why_text w ++ see_text (next_of waits w) ++ codes "\n" ++ owned_story plan run w.thing
+unfoldable pub wait_story : Plan → List Event → List WaitLine → ℕ → WaitLine → List ℕ
+wait_story plan run waits n w = numbered_text plan n w ++ open_text waits w ++ owned_story plan run w.thing
 
 -- the lines of a wait list whose numbers begin here
 abbrev pub wait_stories : Plan → List Event → List WaitLine → ℕ → List WaitLine → List ℕ
 wait_stories plan run waits n [] = []
 wait_stories plan run waits n (w ∷ ws) = wait_story plan run waits n w ++ wait_stories plan run waits (n + 1) ws
 
+-- how many events there were
+unfoldable pub stuck_text : ℕ → List ℕ
+stuck_text events = codes "The run of " ++ decimal events ++ codes " events is stuck: this is open, and nothing can happen.\n"
+
 abbrev pub stuck_story : Plan → List Event → List WaitLine → List ℕ
-stuck_story plan run waits =
-    codes "The run of " ++ decimal (length run) ++ codes " events is stuck: this is open, and nothing can happen.\n" ++ wait_stories plan run waits 1 waits ++ circle_text waits
+stuck_story plan run waits = stuck_text (length run) ++ wait_stories plan run waits 1 waits ++ circle_text waits
 
 -- ---- all endings
 

@@ -3,6 +3,7 @@ ghost use Rattle.std.specs.Prelude.{◌≡◌, ◌-◌, ◌++◌, IfOk, OnOk, le
 ghost use Rattle.wdf_explain.specs.About.{event_if_any, event_lines, last_number, last_of, number_if, numbers_of};
 
 use crate::asked::Asked;
+use crate::words::push_three;
 use std::alloc::Global;
 use wdf_base::{Event, Memory, Plan};
 use wdf_lines::line_of;
@@ -64,12 +65,10 @@ fn push_event(
 ) -> Result<(), Memory>
     ensures { OnOk result (out.new ≡ out.old ++ event_if_any plan.now number (slice_get events.now (number - 1))) }
 {
-    let Some(event) = events.get(number.saturating_sub(1)) else {
-        return Ok(());
-    };
-    out.push(b"  ")?;
-    out.push(line_of(plan, number, event).bytes())?;
-    out.push(b"\n")
+    match events.get(number.saturating_sub(1)) {
+        Some(event) => push_three(out, b"  ", line_of(plan, number, event).bytes(), b"\n"),
+        None => Ok(()),
+    }
 }
 
 /// Adds the lines of the events with these numbers.

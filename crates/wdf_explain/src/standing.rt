@@ -2,12 +2,12 @@
 ghost use Rattle.std.specs.Prelude.{◌≡◌, ◌++◌, OnOk, codes};
 ghost use Rattle.wdf_base.specs.Words.{status_word};
 ghost use Rattle.wdf_lines.specs.Lines.{object_text};
-ghost use Rattle.wdf_explain.specs.Standings.{having_text, holder_text, life_text, mark_text, moved_at, references_text, since_text, standing_text, taken_at};
+ghost use Rattle.wdf_explain.specs.Standings.{having_text, holder_text, kept_text, life_text, mark_text, moved_at, references_text, since_text, standing_text, taken_at, who_text};
 
 use crate::asked::Asked;
 use crate::numbers::last_number;
 use crate::told::{Having, Standing};
-use crate::words::{push_counted, push_object, push_with};
+use crate::words::{push_between, push_numbered, push_object, push_three, push_with};
 use std::alloc::Global;
 use wdf_base::{Event, Handle, Life, Mark, Memory, Plan, Status};
 use wdf_writing::Text;
@@ -17,10 +17,7 @@ fn push_since(out: &mut Text, number: Option<usize>) -> Result<(), Memory>
     ensures { OnOk result (out.new ≡ out.old ++ since_text number) }
 {
     match number {
-        Some(number) => {
-            push_counted(out, b", since event ", number)?;
-            out.push(b".")
-        }
+        Some(number) => push_numbered(out, b", since event ", number, b"."),
         None => out.push(b"."),
     }
 }
@@ -44,8 +41,12 @@ fn push_holder(out: &mut Text, number: Option<usize>, holder: Option<u32>) -> Re
 {
     match holder {
         Some(frame) => {
-            push_counted(out, b" The callback of event ", frame as usize)?;
-            out.push(b" holds its lock")?;
+            push_numbered(
+                out,
+                b" The callback of event ",
+                frame as usize,
+                b" holds its lock",
+            )?;
             push_since(out, number)
         }
         None => out.push(b" No callback holds its lock."),
@@ -70,17 +71,25 @@ fn push_lock(
 fn push_returning(out: &mut Text, plan: &Plan, queue: Handle) -> Result<(), Memory>
     ensures { OnOk result (out.new ≡ out.old ++ (codes " It was cancelled in " ++ object_text plan.now queue ++ codes ", and EvtIoCanceledOnQueue is due for it.")) }
 {
-    push_with(out, plan, b" It was cancelled in ", queue)?;
-    out.push(b", and EvtIoCanceledOnQueue is due for it.")
+    push_between(
+        out,
+        plan,
+        b" It was cancelled in ",
+        queue,
+        b", and EvtIoCanceledOnQueue is due for it.",
+    )
 }
 
 /// Adds that the framework is about to complete a request.
 fn push_closing(out: &mut Text, status: Status) -> Result<(), Memory>
     ensures { OnOk result (out.new ≡ out.old ++ (codes " The framework is about to complete it with " ++ status_word status ++ codes ".")) }
 {
-    out.push(b" The framework is about to complete it with ")?;
-    out.push(status.word().as_bytes())?;
-    out.push(b".")
+    push_three(
+        out,
+        b" The framework is about to complete it with ",
+        status.word().as_bytes(),
+        b".",
+    )
 }
 
 /// Adds bytes, an object and since when a request is where it is.
@@ -159,8 +168,12 @@ fn push_references(out: &mut Text, count: u32) -> Result<(), Memory>
     if count == 0 {
         return Ok(());
     }
-    push_counted(out, b" The driver holds ", count as usize)?;
-    out.push(b" references to it.")
+    push_numbered(
+        out,
+        b" The driver holds ",
+        count as usize,
+        b" references to it.",
+    )
 }
 
 /// How far the deletion of an object has come.
@@ -175,6 +188,28 @@ fn life_bytes(life: Life) -> &'static [u8]
     }
 }
 
+/// Adds who has an object, and how far its cancel has come.
+fn push_who(
+    alloc: Global,
+    out: &mut Text,
+    plan: &Plan,
+    events: &[Event],
+    standing: &Standing,
+) -> Result<(), Memory>
+    ensures { OnOk result (out.new ≡ out.old ++ who_text plan.now events.now standing.now) }
+{
+    push_having(alloc, out, plan, events, standing)?;
+    out.push(mark_bytes(standing.mark))
+}
+
+/// Adds its references, and how far its deletion has come.
+fn push_life(out: &mut Text, standing: &Standing) -> Result<(), Memory>
+    ensures { OnOk result (out.new ≡ out.old ++ kept_text standing.now) }
+{
+    push_references(out, standing.references)?;
+    out.push(life_bytes(standing.life))
+}
+
 /// Adds how an object is, in one line.
 pub(crate) fn push_standing(
     alloc: Global,
@@ -187,9 +222,7 @@ pub(crate) fn push_standing(
 {
     push_object(out, plan, standing.object)?;
     out.push(b":")?;
-    push_having(alloc, out, plan, events, standing)?;
-    out.push(mark_bytes(standing.mark))?;
-    push_references(out, standing.references)?;
-    out.push(life_bytes(standing.life))?;
+    push_who(alloc, out, plan, events, standing)?;
+    push_life(out, standing)?;
     out.push(b"\n")
 }

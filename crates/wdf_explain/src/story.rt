@@ -1,27 +1,14 @@
 //! The story of a run's ending.
-ghost use Rattle.std.specs.Prelude.{◌≡◌, ◌++◌, IfOk, OnOk, decimal};
+ghost use Rattle.std.specs.Prelude.{◌≡◌, ◌++◌, IfOk, OnOk};
 ghost use Rattle.wdf_explain.specs.Stories.{story_of};
 
 use crate::fault::push_fault_story;
 use crate::stuck::push_stuck_story;
 use crate::told::Doing;
-use crate::words::push_counted;
+use crate::words::push_numbered;
 use std::alloc::Global;
 use wdf_base::{Ending, Event, Memory, Plan, WaitLine};
 use wdf_writing::Text;
-
-/// Adds bytes, a number and bytes.
-fn push_sentence(
-    out: &mut Text,
-    front: &[u8],
-    number: usize,
-    back: &[u8],
-) -> Result<(), Memory>
-    ensures { OnOk result (out.new ≡ out.old ++ (front.now ++ decimal number ++ back.now)) }
-{
-    push_counted(out, front, number)?;
-    out.push(back)
-}
 
 /// Adds the story of a run's ending.
 fn push_story(
@@ -37,13 +24,13 @@ fn push_story(
 {
     match ending {
         Ending::Running => Ok(()),
-        Ending::Finished => push_sentence(
+        Ending::Finished => push_numbered(
             out,
             b"The run of ",
             events.len(),
             b" events finished: nothing is open.\n",
         ),
-        Ending::Limit => push_sentence(
+        Ending::Limit => push_numbered(
             out,
             b"The run came to its limit of ",
             events.len(),

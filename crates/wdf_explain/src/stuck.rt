@@ -1,8 +1,6 @@
 //! The story of a stuck run.
-ghost use Rattle.std.specs.Prelude.{◌≡◌, ◌+◌, ◌<◌, ◌^◌, ◌++◌, OnOk, length};
-ghost use Rattle.wdf_explain.specs.Stories.{in_callback, owned_since, owned_story, see_text, stuck_story, wait_stories, wait_story};
-ghost use Rattle.wdf_explain.specs.About.{frame_of};
-ghost use Rattle.wdf_explain.specs.Standings.{moved_at};
+ghost use Rattle.std.specs.Prelude.{◌≡◌, ◌++◌, OnOk};
+ghost use Rattle.wdf_explain.specs.Stories.{in_callback, numbered_text, open_text, owned_since, owned_story, see_text, stuck_story, stuck_text, wait_stories, wait_story};
 
 use crate::asked::Asked;
 use crate::circle::push_circle;
@@ -10,9 +8,9 @@ use crate::links::next_of;
 use crate::numbers::{last_number, push_events};
 use crate::rules::why_of;
 use crate::turns::frame_of;
-use crate::words::push_counted;
+use crate::words::{push_counted, push_numbered, push_three};
 use std::alloc::Global;
-use wdf_base::{Event, Handle, Memory, OpenThing, Plan, WaitLine};
+use wdf_base::{Event, Memory, OpenThing, Plan, WaitLine};
 use wdf_lines::wait_line;
 use wdf_writing::Text;
 
@@ -68,12 +66,27 @@ fn push_see(out: &mut Text, line: Option<usize>) -> Result<(), Memory>
     ensures { OnOk result (out.new ≡ out.old ++ see_text line) }
 {
     match line {
-        Some(line) => {
-            push_counted(out, b" See line ", line)?;
-            out.push(b".")
-        }
+        Some(line) => push_numbered(out, b" See line ", line, b"."),
         None => Ok(()),
     }
+}
+
+/// Adds a line of the wait list with this number.
+fn push_line(out: &mut Text, plan: &Plan, number: usize, wait: &WaitLine) -> Result<(), Memory>
+    ensures { OnOk result (out.new ≡ out.old ++ numbered_text plan.now number wait.now) }
+{
+    out.push_number(number as u64)?;
+    push_three(out, b": ", wait_line(plan, wait).bytes(), b"\n")
+}
+
+/// Adds why it is open, and the line for which it waits.
+fn push_open(out: &mut Text, waits: &[WaitLine], wait: &WaitLine) -> Result<(), Memory>
+    ensures { OnOk result (out.new ≡ out.old ++ open_text waits.now wait.now) }
+{
+    out.push(b"  ")?;
+    out.push(why_of(wait))?;
+    push_see(out, next_of(waits, wait))?;
+    out.push(b"\n")
 }
 
 /// Adds a line of the wait list with this number, why it is open, and the line for which it waits.
@@ -88,13 +101,8 @@ fn push_wait(
 ) -> Result<(), Memory>
     ensures { OnOk result (out.new ≡ out.old ++ wait_story plan.now events.now waits.now number wait.now) }
 {
-    out.push_number(number as u64)?;
-    out.push(b": ")?;
-    out.push(wait_line(plan, wait).bytes())?;
-    out.push(b"\n  ")?;
-    out.push(why_of(wait))?;
-    push_see(out, next_of(waits, wait))?;
-    out.push(b"\n")?;
+    push_line(out, plan, number, wait)?;
+    push_open(out, waits, wait)?;
     push_owned(alloc, out, plan, events, &wait.thing)
 }
 
@@ -108,12 +116,24 @@ fn push_waits(
 ) -> Result<(), Memory>
     ensures { OnOk result (out.new ≡ out.old ++ wait_stories plan.now events.now waits.now 1 waits.now) }
 {
-    let mut number = 1;
+    let mut before = 0;
     for wait in waits {
-        push_wait(alloc, out, plan, events, waits, number, wait)?;
-        number += 1;
+        push_wait(alloc, out, plan, events, waits, before + 1, wait)?;
+        before += 1;
     }
     Ok(())
+}
+
+/// Adds how many events there were.
+fn push_stuck(out: &mut Text, events: usize) -> Result<(), Memory>
+    ensures { OnOk result (out.new ≡ out.old ++ stuck_text events) }
+{
+    push_numbered(
+        out,
+        b"The run of ",
+        events,
+        b" events is stuck: this is open, and nothing can happen.\n",
+    )
 }
 
 /// Adds the story of a stuck run.
@@ -126,8 +146,7 @@ pub(crate) fn push_stuck_story(
 ) -> Result<(), Memory>
     ensures { OnOk result (out.new ≡ out.old ++ stuck_story plan.now events.now waits.now) }
 {
-    push_counted(out, b"The run of ", events.len())?;
-    out.push(b" events is stuck: this is open, and nothing can happen.\n")?;
+    push_stuck(out, events.len())?;
     push_waits(alloc, out, plan, events, waits)?;
     push_circle(alloc, out, waits)
 }

@@ -1,6 +1,6 @@
 //! The callback in which an event came.
-ghost use Rattle.std.specs.Prelude.{◌≡◌, ◌≤◌, length};
-ghost use Rattle.wdf_explain.specs.About.{frame_of, frame_under, own_turn, turn_of};
+ghost use Rattle.std.specs.Prelude.{◌≡◌, ◌+◌, ◌<◌, ◌≤◌, ◌^◌, length};
+ghost use Rattle.wdf_explain.specs.About.{depth_before, found, frame_of, frame_under, own_turn, turn_of};
 
 use crate::asked::cpu_of;
 use wdf_base::{Cpu, Event};
@@ -44,24 +44,49 @@ fn turn_of(cpu: Cpu, number: usize, event: &Event) -> Turn
     }
 }
 
+/// The frame that comes, where none is to be above it.
+fn found(turn: Turn, depth: usize) -> Option<usize>
+    ensures { result ≡ found turn depth }
+{
+    match turn {
+        Turn::Comes(frame) => {
+            if depth == 0 {
+                Some(frame)
+            } else {
+                None
+            }
+        }
+        _ => None,
+    }
+}
+
+/// How many frames are above it before a turn, where so many are after it.
+fn depth_before(turn: Turn, depth: usize) -> usize
+    requires { depth + 1 < 2 ^ 64 }
+    ensures value { result ≡ depth_before turn depth }
+    ensures small { result ≤ depth + 1 }
+{
+    match turn {
+        Turn::Comes(_) => depth.saturating_sub(1),
+        Turn::Goes => depth + 1,
+        Turn::Stays => depth,
+    }
+}
+
 /// The frame on top of a processor after the first events of a run, so many.
 fn top_after(cpu: Cpu, events: &[Event], count: usize) -> Option<usize>
     requires { count ≤ length events.now }
     ensures { result ≡ frame_under cpu.0 events.now count 0 }
 {
-    let mut depth: usize = 0;
+    let mut depth = 0;
     let mut left = count;
     while left > 0 {
-        match turn_of(cpu, left, &events[left - 1]) {
-            Turn::Comes(frame) => {
-                if depth == 0 {
-                    return Some(frame);
-                }
-                depth -= 1;
-            }
-            Turn::Goes => depth += 1,
-            Turn::Stays => {}
+        let turn = turn_of(cpu, left, &events[left - 1]);
+        match found(turn, depth) {
+            Some(frame) => return Some(frame),
+            None => {}
         }
+        depth = depth_before(turn, depth);
         left -= 1;
     }
     None

@@ -1,11 +1,11 @@
 //! Objects, calls and what a frame is about to do, as words.
-ghost use Rattle.std.specs.Prelude.{◌≡◌, ◌∷◌, ◌++◌, [], IfSome, OnOk, codes, decimal, option_map, slice_get};
+ghost use Rattle.std.specs.Prelude.{◌≡◌, ◌++◌, OnOk, codes, decimal, option_map, slice_get};
 ghost use Rattle.wdf_base.specs.Kinds.{class_name};
 ghost use Rattle.wdf_base.specs.Resolved.{register_name};
-ghost use Rattle.wdf_lines.specs.Lines.{argument_text, argument_words, class_text, cpu_text, named, object_text, register_text, spaced, value_text};
+ghost use Rattle.wdf_lines.specs.Lines.{argument_text, argument_words, named, object_text, register_text, spaced, value_text};
 ghost use Rattle.wdf_explain.specs.Words.{call_text, intent_text};
 
-use wdf_base::{Arg, Call, Cpu, Handle, Intent, Memory, Plan, Value};
+use wdf_base::{Arg, Call, Handle, Intent, Memory, Plan, Value};
 use wdf_lines::name_bytes;
 use wdf_writing::Text;
 
@@ -39,12 +39,45 @@ pub(crate) fn push_counted(out: &mut Text, front: &[u8], number: usize) -> Resul
     out.push_number(number as u64)
 }
 
-/// Adds a processor.
-pub(crate) fn push_cpu(out: &mut Text, cpu: Cpu) -> Result<(), Memory>
-    ensures { OnOk result (out.new ≡ out.old ++ cpu_text cpu) }
+/// Adds bytes, an object and bytes.
+pub(crate) fn push_between(
+    out: &mut Text,
+    plan: &Plan,
+    front: &[u8],
+    object: Handle,
+    back: &[u8],
+) -> Result<(), Memory>
+    ensures { OnOk result (out.new ≡ out.old ++ (front.now ++ object_text plan.now object ++ back.now)) }
 {
-    out.push(b"cpu")?;
-    out.push_number(u64::from(cpu.0))
+    push_with(out, plan, front, object)?;
+    out.push(back)
+}
+
+/// Adds bytes, a number and bytes.
+pub(crate) fn push_numbered(
+    out: &mut Text,
+    front: &[u8],
+    number: usize,
+    back: &[u8],
+) -> Result<(), Memory>
+    ensures { OnOk result (out.new ≡ out.old ++ (front.now ++ decimal number ++ back.now)) }
+{
+    push_counted(out, front, number)?;
+    out.push(back)
+}
+
+/// Adds three pieces.
+pub(crate) fn push_three(
+    out: &mut Text,
+    front: &[u8],
+    middle: &[u8],
+    back: &[u8],
+) -> Result<(), Memory>
+    ensures { OnOk result (out.new ≡ out.old ++ (front.now ++ middle.now ++ back.now)) }
+{
+    out.push(front)?;
+    out.push(middle)?;
+    out.push(back)
 }
 
 /// Adds a name that may be there.

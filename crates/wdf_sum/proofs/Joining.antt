@@ -1,8 +1,9 @@
 -- Ranges that follow one another.
-use Rattle.std.proofs.Common.{◌≡◌, ℕ, ◌+◌, ◌<◌, ◌≤◌, ◌^◌, ◌⊎◌, inl, inr, List, [], ◌∷◌, ◌++◌, length, take, drop, get_or, sum_by, Option, Some, None, slice_get, Result, Ok, Err, IfErr, refl, sym, subst, ap, ◌∙◌, arith}
+use Rattle.std.proofs.Common.{◌≡◌, ℕ, ◌+◌, ◌<◌, ◌≤◌, ◌⊎◌, inl, inr, Bool, true, false, nat_lt, List, length, take, get_or, Some, slice_get, Result, Ok, Err, IfErr, refl, sym, ap, ◌∙◌, arith}
 use Rattle.std.specs.List.Sorted.{IsPermutation, IsSorted}
 use Rattle.std.specs.Cmp.{IsStrictWeakOrder, IsTotalOrder}
 use Rattle.std.specs.Ordering.{is_lt, nat_cmp}
+use Rattle.std.proofs.lemmas.Bool.Decides.{nat_tests}
 use Rattle.std.proofs.lemmas.Cmp.{nat_cmp_total, on_total, then_total}
 use Rattle.std.proofs.lemmas.List.{take_more}
 use Rattle.std.proofs.lemmas.List.MinMax.{ranks_by}
@@ -12,7 +13,7 @@ use Rattle.wdf_sum.specs.declared.line.Seeds.{Seeds}
 use Rattle.wdf_sum.specs.declared.refused.Bad.{Bad}
 use Rattle.wdf_sum.specs.declared.refused.Bad.TheVariants.{NoMemory, AtLine}
 use Rattle.wdf_sum.specs.Lines.{count_of}
-use Rattle.wdf_sum.specs.Sums.{AreNoRange, Follow, HasBreak, IsApart, IsNoRangeFrom, seeds_cmp}
+use Rattle.wdf_sum.specs.Sums.{AreNoRange, Follow, IsNoRangeFrom, seeds_cmp}
 
 -- the ranges before this place follow one another from here on
 abbrev pub FollowTo : ℕ → ℕ → List Seeds → Type 0
@@ -39,8 +40,12 @@ follow_by from n k ends s d less within there before here (inr same) =
     let is : get_or ends n d ≡ s = same_some (get_or ends n d) s (sym at ∙ ap (slice_get ends) (sym same) ∙ there) in
     ap (λ (x : Seeds). x.from) (sym is) ∙ here ∙ ap (λ i. from + count_of (take i ends)) (sym same)
 
+cases_by : (k n : ℕ) (test : Bool) → nat_lt k n ≡ test → k < n + 1 → (k < n) ⊎ (k ≡ n)
+cases_by k n true is less = inl (grind (arith, nat_tests, is))
+cases_by k n false is less = inr (grind (arith, nat_tests, is, less))
+
 cases_of : (k n : ℕ) → k < n + 1 → (k < n) ⊎ (k ≡ n)
-cases_of k n less = omega (arith, less)
+cases_of k n less = cases_by k n (nat_lt k n) refl less
 
 -- a range more
 pub follow_more : (from n : ℕ) (ends : List Seeds) (d : Seeds) → n < length ends → FollowTo n from ends → (get_or ends n d).from ≡ from + count_of (take n ends) → FollowTo (n + 1) from ends

@@ -1,15 +1,13 @@
 -- What lines of tables come to that were all of an input.
-use Rattle.std.proofs.Common.{◌≡◌, ◌≢◌, ℕ, ◌+◌, ◌<◌, ◌≤◌, ◌^◌, ◌==◌, ◌&&◌, ◌⊎◌, inl, inr, Bool, true, false, not, List, [], ◌∷◌, length, take, get_or, map, Option, Some, slice_get, refl, sym, subst, ap, ◌∙◌, arith}
+use Rattle.std.proofs.Common.{◌≡◌, ◌≢◌, ℕ, ◌+◌, ◌<◌, ◌≤◌, ◌^◌, ◌==◌, ◌||◌, ◌⊎◌, inl, inr, Bool, true, false, not, List, [], ◌∷◌, length, take, get_or, map, Some, slice_get, refl, sym, subst, ap, ◌∙◌, arith}
 use Rattle.std.specs.List.{All}
-use Rattle.std.proofs.lemmas.Bool.{and_parts}
-use Rattle.std.proofs.lemmas.Bool.Decides.{nat_tests}
+use Rattle.std.proofs.lemmas.Bool.{eq-eqb, eqb-true}
 use Rattle.std.proofs.lemmas.List.{take_all}
 use Rattle.std.proofs.lemmas.List.Elements.{All-head}
 use Rattle.std.proofs.lemmas.List.Sorted.{sum_by-IsPermutation, All-permutation}
 use Rattle.std.proofs.lemmas.List.Sums.{sum_by-cons}
 use Rattle.std.proofs.lemmas.Option.{slice_get-get_or}
 use Rattle.wdf_run_text.specs.Lines.{trace_lines}
-use Rattle.wdf_table.specs.Tables.{all_seeds}
 use Rattle.wdf_sum.specs.declared.line.Seeds.{Seeds}
 use Rattle.wdf_sum.specs.declared.line.TableLine.{TableLine}
 use Rattle.wdf_sum.specs.declared.refused.Why.{Why}
@@ -18,8 +16,8 @@ use Rattle.wdf_sum.specs.declared.refused.Bad.{Bad}
 use Rattle.wdf_sum.specs.declared.refused.Bad.TheVariants.{NoMemory, AtLine}
 use Rattle.wdf_sum.specs.declared.sum.Sum.{Sum}
 use Rattle.wdf_sum.specs.declared.tables.Tables.{Tables}
-use Rattle.wdf_sum.specs.Lines.{IsTableEnd, line_text, rows_in, ends_in, count_of, events_of}
-use Rattle.wdf_sum.specs.Sums.{AreApart, AreJoined, AreNoRange, HasApart, IsNoSum, IsReadWhole, IsRefusedAt, IsSumOf, StopsAt}
+use Rattle.wdf_sum.specs.Lines.{IsTableEnd, line_text, ends_in, count_of}
+use Rattle.wdf_sum.specs.Sums.{AreApart, AreJoined, AreNoRange, IsNoSum, IsReadWhole, IsRefusedAt, IsSumOf, StopsAt}
 use Rattle.wdf_sum.proofs.Joining.{counted_more}
 
 -- ---- joined ranges
@@ -51,7 +49,7 @@ fits_in_order from (o ∷ os) follow all some =
 
 pub joined_fits : (from : ℕ) (ends : List Seeds) → AreJoined from ends → All IsTableEnd ends → 0 < count_of ends → from + count_of ends ≤ 2 ^ 64
 joined_fits from ends joined all some =
-    let same : count_of ends ≡ count_of joined.ordered = sum_by-IsPermutation (λ (s : Seeds). s.count) ends joined.ordered joined.moved in
+    let same : count_of ends ≡ count_of joined.ordered = sym (sum_by-IsPermutation (λ (s : Seeds). s.count) ends joined.ordered joined.moved) in
     omega (arith, same, fits_in_order from joined.ordered joined.follow (All-permutation IsTableEnd ends joined.ordered joined.moved all) (omega (arith, same, some)))
 
 -- ---- of an input
@@ -61,14 +59,23 @@ pub record AreClosed (tables : Tables) : Type 0 where
   pub some : tables.ends.items ≢ []
   pub full : tables.seeds ≡ tables.count
 
-no_ends : (ends : List Seeds) → not (length ends == 0) ≡ true → ends ≢ []
-no_ends [] passes same = let z : ⊥ = cc in z
-no_ends (e ∷ es) passes same = let z : ⊥ = cc in z
+empty_list : (ends : List Seeds) → (length ends == 0) ≡ true → ends ≡ []
+empty_list [] h = refl
+empty_list (e ∷ es) h = absurd (let none : length (e ∷ es) ≡ 0 = eqb-true (length (e ∷ es)) 0 h in omega (arith, none))
 
-pub closed_by : (tables : Tables) → (not (length tables.ends.items == 0) && tables.seeds == tables.count) ≡ true → AreClosed tables
-closed_by tables passes =
-    let parts = and_parts (not (length tables.ends.items == 0)) (tables.seeds == tables.count) passes in
-    record { some = no_ends tables.ends.items parts.0; full = grind (arith, nat_tests, parts.1) }
+some_list : (ends : List Seeds) → (length ends == 0) ≡ false → ends ≡ [] → ⊥
+some_list ends h none = let same : length ends ≡ 0 = ap length none in let yes : (length ends == 0) ≡ true = eq-eqb (length ends) 0 same in let z : ⊥ = cc in z
+
+differing : (a b : ℕ) → (a == b) ≡ false → a ≡ b → ⊥
+differing a b h same = let yes : (a == b) ≡ true = eq-eqb a b same in let z : ⊥ = cc in z
+
+closed_tests : (tables : Tables) (p q : Bool) → (length tables.ends.items == 0) ≡ p → (tables.seeds == tables.count) ≡ q → (p || not q) ≡ false → AreClosed tables
+closed_tests tables true q is at fails = absurd (let z : ⊥ = cc in z)
+closed_tests tables false false is at fails = absurd (let z : ⊥ = cc in z)
+closed_tests tables false true is at fails = record { some = some_list tables.ends.items is; full = eqb-true tables.seeds tables.count at }
+
+pub closed_by : (tables : Tables) → (length tables.ends.items == 0 || not (tables.seeds == tables.count)) ≡ false → AreClosed tables
+closed_by tables fails = closed_tests tables (length tables.ends.items == 0) (tables.seeds == tables.count) refl refl fails
 
 pub sum_closed : (input : List ℕ) (tables : Tables) (number : ℕ) (sum : Sum) → IsReadWhole input tables number → AreClosed tables → AreJoined sum.from tables.ends.items
     → sum.tally ≡ tables.tally → sum.count ≡ tables.count → sum.events ≡ tables.events → IsSumOf input sum
@@ -94,18 +101,18 @@ sum_fits input tables number from (lines, are, number_is, read) closed joined =
 
 -- ---- no sum
 
-unclosed_by : (ends : List Seeds) (seeds count : ℕ) (test : Bool) → (seeds == count) ≡ test → (not (length ends == 0) && test) ≡ false → (ends ≡ []) ⊎ (seeds ≢ count)
-unclosed_by [] seeds count test is fails = inl refl
-unclosed_by (e ∷ es) seeds count true is fails = absurd (let z : ⊥ = cc in z)
-unclosed_by (e ∷ es) seeds count false is fails = inr (λ same. grind (arith, nat_tests, is, same))
+unclosed_by : (tables : Tables) (p q : Bool) → (length tables.ends.items == 0) ≡ p → (tables.seeds == tables.count) ≡ q → (p || not q) ≡ true → (tables.ends.items ≡ []) ⊎ (tables.seeds ≢ tables.count)
+unclosed_by tables true q is at passes = inl (empty_list tables.ends.items is)
+unclosed_by tables false false is at passes = inr (differing tables.seeds tables.count at)
+unclosed_by tables false true is at passes = absurd (let z : ⊥ = cc in z)
 
 stops_by : (input : List ℕ) (number : ℕ) (tables : Tables) (whole : IsReadWhole input tables number) → (tables.ends.items ≡ []) ⊎ (tables.seeds ≢ tables.count) → StopsAt input number
 stops_by input number tables (lines, are, number_is, read) (inl none) = record { lines = lines; are = are; number_is = number_is; unclosed = inl (sym read.ends ∙ none) }
 stops_by input number tables (lines, are, number_is, read) (inr differ) =
     record { lines = lines; are = are; number_is = number_is; unclosed = inr (λ same. differ (read.seeds ∙ same ∙ sym read.count)) }
 
-pub sum_stops : (input : List ℕ) (number : ℕ) (tables : Tables) → IsReadWhole input tables number → (not (length tables.ends.items == 0) && tables.seeds == tables.count) ≡ false → StopsAt input number
-sum_stops input number tables whole fails = stops_by input number tables whole (unclosed_by tables.ends.items tables.seeds tables.count (tables.seeds == tables.count) refl fails)
+pub sum_stops : (input : List ℕ) (number : ℕ) (tables : Tables) → IsReadWhole input tables number → (length tables.ends.items == 0 || not (tables.seeds == tables.count)) ≡ true → StopsAt input number
+sum_stops input number tables whole passes = stops_by input number tables whole (unclosed_by tables (length tables.ends.items == 0) (tables.seeds == tables.count) refl refl passes)
 
 apart_by : (input : List ℕ) (lines : List TableLine) (number : ℕ) (reason : Why) → trace_lines input ≡ map line_text lines → AreApart (ends_in lines) number reason → IsRefusedAt input number reason
 apart_by input lines number why.CountedTwice are apart = record { lines = lines; are = are; apart = apart }

@@ -1,8 +1,8 @@
 -- One line more is taken, or it is the first bad one.
-use Rattle.std.proofs.Common.{◌≡◌, ◌≢◌, ℕ, ◌+◌, ◌^◌, ◌<◌, ◌≤◌, ◌⊎◌, inl, inr, List, [], ◌∷◌, ◌++◌, length, map, drop, sum_by, refl, sym, subst, ap, ◌∙◌, arith, append_assoc, append-nil, length-append}
+use Rattle.std.proofs.Common.{◌≡◌, ℕ, ◌+◌, ◌<◌, ◌≤◌, List, [], ◌∷◌, ◌++◌, length, map, drop, refl, sym, subst, ap, ◌∙◌, arith, append_assoc, append-nil, length-append}
 use Rattle.std.specs.List.{All}
 use Rattle.std.proofs.lemmas.List.{map-append, drop_all}
-use Rattle.std.proofs.lemmas.List.Elements.{All-nil, All-push}
+use Rattle.std.proofs.lemmas.List.Elements.{All-push}
 use Rattle.std.proofs.lemmas.List.Sums.{sum_by_push}
 use Rattle.wdf_run_text.specs.Lines.{first_line, trace_lines}
 use Rattle.wdf_run_text.proofs.Cutting.{line_there}
@@ -16,7 +16,7 @@ use Rattle.wdf_sum.specs.declared.refused.Why.TheVariants as why
 use Rattle.wdf_sum.specs.declared.refused.Bad.{Bad}
 use Rattle.wdf_sum.specs.declared.refused.Bad.TheVariants.{NoMemory, AtLine}
 use Rattle.wdf_sum.specs.declared.tables.Tables.{Tables}
-use Rattle.wdf_sum.specs.Lines.{IsTableEnd, IsTableLine, line_text, rows_in, ends_in, count_of, events_of, row_of, end_of}
+use Rattle.wdf_sum.specs.Lines.{IsTableEnd, line_text, rows_in, ends_in, count_of, events_of, row_of, end_of}
 use Rattle.wdf_sum.specs.Sums.{IsReadAs, IsReadWhole, IsBadLine, IsBadNext, IsBadAt, IsRefusedAt, IsNoSum}
 
 -- ---- what a line more adds

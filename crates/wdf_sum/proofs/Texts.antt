@@ -1,6 +1,6 @@
 -- The lines of tables as texts.
-use Rattle.std.proofs.Common.{◌≡◌, ℕ, ◌+◌, ◌-◌, ◌<◌, ◌≤◌, ◌^◌, ◌==◌, ◌&&◌, Bool, true, List, [], ◌∷◌, ◌++◌, codes, decimal, length, nat_lt, refl, ap, ◌∙◌, sym, subst, arith, append_assoc, append-nil}
-use Rattle.std.proofs.lemmas.Bool.{and_parts}
+use Rattle.std.proofs.Common.{◌≡◌, ℕ, ◌+◌, ◌-◌, ◌<◌, ◌≤◌, ◌^◌, ◌==◌, ◌&&◌, true, List, [], ◌∷◌, codes, length, nat_lt, refl, ap, ◌∙◌, sym, arith, append_assoc}
+use Rattle.std.proofs.lemmas.Bool.{and_parts, eqb-true}
 use Rattle.std.proofs.lemmas.Bool.Decides.{nat_tests}
 use Rattle.std.proofs.lemmas.List.{append_cancel_right}
 use Rattle.wdf_run_text.specs.Lines.{fed}
@@ -36,7 +36,7 @@ row_found row text count seed events kind is (a, b, d, e) = row_is row ∙ ap fe
 
 empty_list : (xs : List ℕ) → (length xs == 0) ≡ true → xs ≡ []
 empty_list [] h = refl
-empty_list (x ∷ xs) h = absurd (let z : ⊥ = cc in z)
+empty_list (x ∷ xs) h = absurd (let none : length (x ∷ xs) ≡ 0 = eqb-true (length (x ∷ xs)) 0 h in omega (arith, none))
 
 -- what passes the test is the last line of a table
 pub end_found : (text rest : List ℕ) (s : Seeds) (to : ℕ) → text ≡ end_words s.from to s.count s.events rest

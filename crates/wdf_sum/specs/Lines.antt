@@ -1,5 +1,5 @@
 -- The lines of tables as they are read: rows, and the last line of each table. (own)
-use Rattle.std.specs.Prelude.{ℕ, ◌≡◌, ◌+◌, ◌-◌, ◌<◌, ◌≤◌, ◌^◌, Bool, false, not, List, [], ◌∷◌, ◌++◌, codes, decimal, sum_by}
+use Rattle.std.specs.Prelude.{ℕ, ◌≡◌, ◌+◌, ◌<◌, ◌≤◌, ◌^◌, Bool, false, not, List, [], ◌∷◌, ◌++◌, codes, decimal, sum_by}
 use Rattle.std.specs.Char.{is_ascii_digit}
 use Rattle.wdf_table.specs.declared.row.Row.{Row}
 use Rattle.wdf_table.specs.Lines.{row_text, total_text}

@@ -5,6 +5,7 @@ ghost use Rattle.std.specs.List.{take_while};
 ghost use Rattle.wdf_sum.specs.Lines.{ends_digits};
 
 use itoa::Buffer;
+use wdf_run_text::from_place;
 use wdf_text::small_number;
 
 /// How many decimal digits a text begins with.
@@ -12,9 +13,7 @@ fn digits_len(text: &[u8]) -> usize
     ensures value { result ≡ length (take_while is_ascii_digit text.now) }
     ensures within { result ≤ length text.now }
 {
-    text.iter()
-        .take_while(|byte| byte.is_ascii_digit())
-        .count()
+    text.iter().take_while(|byte| byte.is_ascii_digit()).count()
 }
 
 /// Whether these are the decimal digits of a number.
@@ -64,6 +63,6 @@ pub(crate) fn number_before<'a>(text: &'a [u8], word: &[u8]) -> Option<Numbered<
 {
     let len = digits_len(text);
     let number = number_of(&text[..len])?;
-    let rest = after(&text[len..], word)?;
+    let rest = after(from_place(text, len), word)?;
     Some(Numbered { number, rest })
 }

@@ -12,11 +12,13 @@
 
 mod digits;
 mod joined;
+mod laws;
 mod line;
 mod refused;
 mod sum;
 mod tables;
 
+pub use laws::tables_of_tables;
 pub use line::{Seeds, TableLine};
 pub use refused::{Bad, Why};
 pub use sum::{Sum, sum_of};

@@ -1,5 +1,5 @@
 //! The sum of tables.
-ghost use Rattle.std.specs.Prelude.{◌≡◌, ◌+◌, ◌==◌, ◌&&◌, ◌<◌, ◌≤◌, ◌^◌, ℕ, List, IfErr, IfOk, length, not};
+ghost use Rattle.std.specs.Prelude.{◌≡◌, ◌+◌, ◌==◌, ◌||◌, ◌<◌, ◌≤◌, ◌^◌, ℕ, List, IfErr, IfOk, length, not};
 ghost use Rattle.wdf_sum.specs.Lines.{count_of};
 ghost use Rattle.wdf_sum.specs.Sums.{IsNoSum, IsReadWhole, IsSumOf};
 
@@ -22,11 +22,11 @@ pub struct Sum {
     pub events: u64,
 }
 
-/// Whether the lines so far end with a table, and are some.
-fn is_closed(tables: &Tables) -> bool
-    ensures { result ≡ (not (length tables.now.ends.items == 0) && tables.now.seeds == tables.now.count) }
+/// Whether there is no table, or the last one has no last line.
+fn is_open(tables: &Tables) -> bool
+    ensures { result ≡ (length tables.now.ends.items == 0 || not (tables.now.seeds == tables.now.count)) }
 {
-    !tables.ends.is_empty() && tables.seeds == tables.count
+    tables.ends.is_empty() || tables.seeds != tables.count
 }
 
 /// What lines of tables come to that were all of an input, if they end with a table.
@@ -37,7 +37,7 @@ fn closed(tables: Tables, number: usize) -> Result<Sum, Bad>
     ensures some { (input : List ℕ) → IsReadWhole input tables number → IfOk result (λ sum. 0 < sum.count) }
     ensures fits { (input : List ℕ) → IsReadWhole input tables number → IfOk result (λ sum. sum.from + sum.count ≤ 2 ^ 64) }
 {
-    if !is_closed(&tables) {
+    if is_open(&tables) {
         return Err(Bad::AtLine {
             line: number,
             why: Why::Missing,

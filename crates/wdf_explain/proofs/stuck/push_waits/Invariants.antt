@@ -3,7 +3,7 @@ use Rattle.std.proofs.Common.{◌≡◌, ◌+◌, ◌++◌, drop}
 use Rattle.wdf_explain.specs.Stories.{wait_stories}
 use Rattle.wdf_explain.proofs.stuck.push_waits.Given as goal
 
-abbrev pub invariant-loop-number : goal.invariant-loop-number
-invariant-loop-number l =
-    (l.out ++ wait_stories l.plan l.events l.waits l.number (drop l.wait-index l.waits) ≡ l.fn.out ++ wait_stories l.plan l.events l.waits 1 l.waits)
-    × (l.number ≡ l.wait-index + 1)
+abbrev pub invariant-loop-wait : goal.invariant-loop-wait
+invariant-loop-wait l =
+    (l.out ++ wait_stories l.plan l.events l.waits (l.before + 1) (drop l.wait-index l.waits) ≡ l.fn.out ++ wait_stories l.plan l.events l.waits 1 l.waits)
+    × (l.before ≡ l.wait-index)

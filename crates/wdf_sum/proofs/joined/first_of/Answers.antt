@@ -10,4 +10,4 @@ use Rattle.wdf_sum.proofs.joined.first_of.Goals as goal
 pub returns-clause-apart : goal.returns-clause-apart
 returns-clause-apart c =
     none_of c.args.ends.items c.sort_unstable_by.new.self.items c.first_of_ordered.result c.sort_unstable_by.ensures.permutation
-    (c.sort_unstable_by.ensures.sorted (λ (a b : Seeds). is_lt (seeds_cmp a b)) seeds_in_order (answers_always _ _ _ (λ f a r g h. search rules))) ?
+    (c.sort_unstable_by.ensures.sorted (λ (a b : Seeds). is_lt (seeds_cmp a b)) seeds_in_order (answers_always _ _ _ (λ f a r g h. search rules))) (rw c.as_slice.ensures.value at c.first_of_ordered.ensures.apart)

@@ -1,5 +1,5 @@
 -- What the last line says that is there.
-use Rattle.std.proofs.Common.{refl, sym, ◌∙◌, arith, true, false, ◌≡◌, ◌-◌, ◌+◌}
+use Rattle.std.proofs.Common.{refl, sym, ◌∙◌, arith, ◌-◌, ◌+◌}
 use Rattle.wdf_sum.proofs.Texts.{end_found, end_passes, end_there}
 use Rattle.wdf_sum.proofs.line.end_of.Goals as goal
 

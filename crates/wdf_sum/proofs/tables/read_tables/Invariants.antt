@@ -1,5 +1,5 @@
 -- The lines so far, and those that are left.
-use Rattle.std.proofs.Common.{◌≡◌, length, ◌-◌}
+use Rattle.std.proofs.Common.{length, ◌-◌}
 use Rattle.wdf_sum.proofs.Taking.{IsReadTo}
 use Rattle.wdf_sum.proofs.tables.read_tables.Given as goal
 
