@@ -9,10 +9,10 @@
 //! - **When is a line of a suite written?** When its file is done, so that one sees how far it is.
 #![tactic(auto)]
 
-mod progress;
+mod progress_line;
 mod suite;
 
-use progress::Line;
+use progress_line::Line;
 use std::alloc::{AllocError, Global};
 use std::env::Args;
 use std::io::IsTerminal;

@@ -62,12 +62,14 @@ module _ {A : Type 0} (S T : State A) (calm : Calm S.cpus T.cpus) where
   pub objects_stay : Same RunningObjects S T
   objects_stay = (
     (λ o. λ i. length (filter (λ x. (calm.object x i).id.0 == o) (all i)) == 0),
-    (λ c d. λ i. list_any (λ x. same_callback (calm.callback x i) c && (calm.device x i).id.0 == d) (all i)))
+    (λ c d. λ i. list_any (λ x. same_callback (calm.callback x i) c && (calm.device x i).id.0 == d) (all i)),
+  )
 
   pub processor_stays : S.cpus.levels ≡ T.cpus.levels → (b : ℕ) → Same (Processor b) S T
   processor_stays levels b = (
     ap (λ fs. cpus.stack_of (record S.cpus { stacks = fs }) b) calm.stacks,
-    level_at (top S.cpus b) ∙ ap (λ fs. level_of_top T.cpus (first_of_list (cpus.stack_of (record S.cpus { stacks = fs }) b))) calm.stacks)
+    level_at (top S.cpus b) ∙ ap (λ fs. level_of_top T.cpus (first_of_list (cpus.stack_of (record S.cpus { stacks = fs }) b))) calm.stacks,
+  )
     where
       level_at : (o : Option ℕ) → level_of_top S.cpus o ≡ level_of_top T.cpus o
       level_at None = refl
@@ -115,7 +117,8 @@ module _ {A : Type 0} (S T : State A) (frames : S.cpus.frames ≡ T.cpus.frames)
   objects_move = (
     (λ o. ap (λ n. n == 0) (on_moved (λ x. (frame_of S.cpus x).object.id.0 == o)) ∙ (λ i. length (filter (λ x. (entry no_frame (frames i) x).frame.object.id.0 == o) (all_frames T.cpus)) == 0)),
     (λ c d. any_moved (λ x. same_callback (frame_of S.cpus x).callback c && (frame_of S.cpus x).device.id.0 == d)
-    ∙ (λ i. list_any (λ x. same_callback (entry no_frame (frames i) x).frame.callback c && (entry no_frame (frames i) x).frame.device.id.0 == d) (all_frames T.cpus))))
+        ∙ (λ i. list_any (λ x. same_callback (entry no_frame (frames i) x).frame.callback c && (entry no_frame (frames i) x).frame.device.id.0 == d) (all_frames T.cpus))),
+  )
 
   pub waited_move : Same WaitedObjects S T
   waited_move = λ o. any_moved (λ x. waits_for o (frame_of S.cpus x).pending) ∙ (λ i. list_any (λ x. waits_for o (entry no_frame (frames i) x).frame.pending) (all_frames T.cpus))

@@ -21,13 +21,13 @@ use Rattle.wdf_base.specs.declared.event.Step.TheVariants as step
 use Rattle.law_machine_base.specs.OverRuns.{FramesAgree}
 use Rattle.law_machine_once.specs.Owned.{StepsOwned}
 use Rattle.law_touched.proofs.Ranks.{StepsRanked}
-use Rattle.law_touched.specs.Touched.{TopFrame, changed, has_piece, is_own_of, offers, read_by, read_by_rank, read_for_rank, touches}
+use Rattle.law_touched.specs.Touched.{TopFrame, changed, has_piece, is_of_time, is_own_of, offers, read_by, read_by_rank, read_for_rank, touches}
 use Rattle.law_touched.proofs.Events.{stays, tick_stays}
 use Rattle.law_touched.proofs.Groups.{offers_alike}
 use Rattle.law_touched.proofs.Same.{apart}
 
 module _ {A : Type 0} (plan : Plan) (m : Meaning A) (S : State A) (agree : FramesAgree S) (owned : StepsOwned plan S) where
-  ranked : StepsRanked S
+  pub ranked : StepsRanked S
   ranked d c None at = (owned.next d (step.Run c None) at).0
   ranked d c (Some i) at = (owned.next d (step.Run c (Some i)) at).0
 
@@ -83,6 +83,22 @@ local_touches plan S cpu line g = reads_top cpu.0 g
 
 pub log_touches : {A : Type 0} (plan : Plan) (S : State A) (cpu : Cpu) (v : Value) (g : Group) → touches plan S (event.Log cpu v) g ≡ is_own_of cpu.0 g
 log_touches plan S cpu v g = reads_top cpu.0 g
+
+-- ---- a tick
+
+tick_by_rank : {A : Type 0} (plan : Plan) (S : State A) (time on : ℕ) (r : Rank) → touches plan S (event.Tick time) (group.Starts on r) ≡ is_of_time (group.Starts on r)
+tick_by_rank plan S time on rank.Isr = refl
+tick_by_rank plan S time on rank.Timed = refl
+tick_by_rank plan S time on _ = refl
+
+tick_for_rank : {A : Type 0} (plan : Plan) (S : State A) (time on o : ℕ) (r : Rank) → touches plan S (event.Tick time) (group.StartsFor on r o) ≡ is_of_time (group.StartsFor on r o)
+tick_for_rank plan S time on o rank.Cancel = refl
+tick_for_rank plan S time on o _ = refl
+
+pub tick_touches : {A : Type 0} (plan : Plan) (S : State A) (time : ℕ) (g : Group) → touches plan S (event.Tick time) g ≡ is_of_time g
+tick_touches plan S time (group.Starts on r) = tick_by_rank plan S time on r
+tick_touches plan S time (group.StartsFor on r o) = tick_for_rank plan S time on o r
+tick_touches plan S time _ = refl
 
 -- ---- all groups
 

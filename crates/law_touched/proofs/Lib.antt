@@ -14,4 +14,5 @@ pub mod Runs
 pub mod Same
 pub mod Starts
 pub mod Totals
+pub mod Unheard
 pub mod Waits

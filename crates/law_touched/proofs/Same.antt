@@ -38,7 +38,7 @@ Agree pieces S T = (p : Piece) → has_piece p pieces ≡ true → Same p S T
 
 -- ---- lists of pieces
 
-piece_is : (p q : Piece) → same_piece p q ≡ true → p ≡ q
+pub piece_is : (p q : Piece) → same_piece p q ≡ true → p ≡ q
 piece_is ObjectTree ObjectTree h = refl
 piece_is (Processor a) (Processor b) h = ap Processor (eqb-true a b h)
 piece_is (TopFrame a) (TopFrame b) h = ap TopFrame (eqb-true a b h)

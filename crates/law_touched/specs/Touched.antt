@@ -1,6 +1,6 @@
 -- What an event touches: the groups whose events may differ before and after it. A group that it doesn't touch offers the
 -- same events in the state before and in the state after. (own)
-use Rattle.std.specs.Prelude.{ℕ, Bool, true, false, ◌==◌, List, [], ◌∷◌, ◌++◌, filter}
+use Rattle.std.specs.Prelude.{ℕ, Bool, true, false, ◌==◌, not, List, [], ◌∷◌, ◌++◌, filter}
 use Rattle.std.specs.List.{flat_map, list_any}
 use Rattle.wdf_base.specs.Meaning.{Meaning}
 use Rattle.wdf_base.specs.declared.plan.Plan.{Plan}
@@ -280,6 +280,15 @@ changed plan S (event.Tick time) = AgentStates ∷ ClockTick ∷ []
 abbrev pub touches : {A : Type 0} → Plan → State A → Event → Group → Bool
 touches plan S e g = list_any (λ p. has_piece p (read_by g)) (changed plan S e)
 
+-- the agents, and no other piece
+abbrev pub is_of_agents : Piece → Bool
+is_of_agents AgentStates = true
+is_of_agents _ = false
+
+-- event e touches group g in state S otherwise than by what agents hear of it
+abbrev pub touches_beside_agents : {A : Type 0} → Plan → State A → Event → Group → Bool
+touches_beside_agents plan S e g = list_any (λ p. has_piece p (read_by g)) (filter (λ p. not (is_of_agents p)) (changed plan S e))
+
 -- the events of group g that may come in state S, by rising place
 abbrev pub offers : {A : Type 0} → Plan → Meaning A → State A → Group → List Event
 offers plan m S g = filter (may plan m S) (candidates_in plan m S g)
@@ -288,3 +297,15 @@ offers plan m S g = filter (may plan m S) (candidates_in plan m S g)
 abbrev pub is_own_of : ℕ → Group → Bool
 is_own_of cpu (group.OwnEvent on) = cpu == on
 is_own_of cpu _ = false
+
+-- group g reads the agents or the clock, and so what a tick changes
+abbrev pub is_of_time : Group → Bool
+-- frames that spend, and reads of registers
+is_of_time (group.OwnEvent cpu) = true
+-- level lines
+is_of_time (group.Starts cpu rank.Isr) = true
+-- timers that are reached
+is_of_time (group.Starts cpu rank.Timed) = true
+-- what agents have due
+is_of_time group.Posts = true
+is_of_time _ = false

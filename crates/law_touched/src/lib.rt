@@ -19,7 +19,7 @@ ghost use Rattle.wdf_model.specs.rules.Ready.{IsRunOf, allowed, ready, state_aft
 ghost use Rattle.wdf_model.specs.rules.Steps.{after, may};
 ghost use Rattle.law_machine_base.specs.OverRuns.{FramesAgree};
 ghost use Rattle.law_machine_once.specs.Owned.{StepsOwned};
-ghost use Rattle.law_touched.specs.Touched.{is_own_of, offers, touches};
+ghost use Rattle.law_touched.specs.Touched.{is_of_time, is_own_of, offers, touches, touches_beside_agents};
 
 /// In every run, a group that an event doesn't touch offers the same events before and after it, whatever event may
 /// follow.
@@ -45,6 +45,13 @@ pub fn groups_stay_that_no_tick_touches<A>()
         → touches plan S (event.Tick time) g ≡ false → offers plan m S g ≡ offers plan m (after plan m S (event.Tick time)) g }
 {}
 
+/// Where no agent changes by an event, it touches no group by what agents show or have due.
+#[tactic(auto, using(crate::proofs::Unheard::untouched_unheard))]
+pub fn groups_stay_where_agents_do<A>()
+    ensures { (plan : Plan) (m : Meaning A) (S : State A) (e : Event) (g : Group) → FramesAgree S → StepsOwned plan S → may plan m S e ≡ true
+        → S.agents ≡ (after plan m S e).agents → touches_beside_agents plan S e g ≡ false → offers plan m S g ≡ offers plan m (after plan m S e) g }
+{}
+
 /// A `let`, an `if` or a `repeat` touches the own event of its processor and no other group.
 #[tactic(auto, using(crate::proofs::Law::local_touches))]
 pub fn local_touches_its_own_event<A>()
@@ -55,6 +62,12 @@ pub fn local_touches_its_own_event<A>()
 #[tactic(auto, using(crate::proofs::Law::log_touches))]
 pub fn log_touches_its_own_event<A>()
     ensures { (plan : Plan) (S : State A) (cpu : Cpu) (v : Value) (g : Group) → touches plan S (event.Log cpu v) g ≡ is_own_of cpu.0 g }
+{}
+
+/// A tick touches the own events, the service routines, the timers and the posts, and no other group.
+#[tactic(auto, using(crate::proofs::Law::tick_touches))]
+pub fn tick_touches_what_reads_time<A>()
+    ensures { (plan : Plan) (S : State A) (time : ℕ) (g : Group) → touches plan S (event.Tick time) g ≡ is_of_time g }
 {}
 
 /// After a Local of a run each group but its own offers as many events as before.

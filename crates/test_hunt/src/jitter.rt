@@ -39,7 +39,9 @@ end
 ";
 
 /// Words that move nothing by 3 ticks: multiples of 4.
-const STILL: [u64; 19] = [0, 4, 8, 12, 16, 20, 24, 28, 32, 36, 40, 44, 48, 52, 56, 60, 64, 68, 72];
+const STILL: [u64; 19] = [
+    0, 4, 8, 12, 16, 20, 24, 28, 32, 36, 40, 44, 48, 52, 56, 60, 64, 68, 72,
+];
 
 const CASES: [Case; 4] = [
     Case {

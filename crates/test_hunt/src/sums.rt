@@ -185,9 +185,13 @@ fn is_same(a: Why, b: Why) -> bool {
 fn is_due(alloc: Global, case: &Case) -> Result<bool, Memory> {
     match (sum_of(alloc, case.tables.as_bytes()), &case.due) {
         (Ok(sum), Due::Table { text, status }) => has_text(alloc, sum, text, *status),
-        (Err(Bad::AtLine { line, why }), Due::Refused { line: at, why: reason }) => {
-            Ok(line == *at && is_same(why, *reason))
-        }
+        (
+            Err(Bad::AtLine { line, why }),
+            Due::Refused {
+                line: at,
+                why: reason,
+            },
+        ) => { Ok(line == *at && is_same(why, *reason)) }
         _ => Ok(false),
     }
 }

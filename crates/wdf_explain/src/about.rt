@@ -81,11 +81,15 @@ pub(crate) fn is_about(object: ObjectId, event: &Event) -> bool
         }
         Event::Waiting { call, .. } => is_in_call(object, call),
         Event::End {
-            object: on, value, ..
+            object: on,
+            value,
+            ..
         } => is_object(object, *on) || is_value(object, *value),
         Event::Log { value, .. } => is_value(object, *value),
         Event::Stage {
-            device, interrupt, ..
+            device,
+            interrupt,
+            ..
         } => is_object(object, *device) || is_if_any(object, *interrupt),
         Event::Complete { request, .. } => is_object(object, *request),
         Event::Cleanup { object: gone } | Event::Destroy { object: gone } => {

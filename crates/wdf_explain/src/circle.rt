@@ -149,11 +149,7 @@ fn push_round(out: &mut Text, nexts: &[Option<usize>], line: usize) -> Result<()
 }
 
 /// Adds the circle among the lines of a wait list, where there is one.
-pub(crate) fn push_circle(
-    alloc: Global,
-    out: &mut Text,
-    waits: &[WaitLine],
-) -> Result<(), Memory>
+pub(crate) fn push_circle(alloc: Global, out: &mut Text, waits: &[WaitLine]) -> Result<(), Memory>
     ensures { OnOk result (out.new ≡ out.old ++ links.circle_text waits.now) }
 {
     let nexts = nexts_of(alloc, waits)?;

@@ -57,12 +57,7 @@ fn last_of(numbers: &[usize]) -> &[usize]
 }
 
 /// Adds the line of the event with this number, two blanks before it.
-fn push_event(
-    out: &mut Text,
-    plan: &Plan,
-    events: &[Event],
-    number: usize,
-) -> Result<(), Memory>
+fn push_event(out: &mut Text, plan: &Plan, events: &[Event], number: usize) -> Result<(), Memory>
     ensures { OnOk result (out.new ≡ out.old ++ event_if_any plan.now number (slice_get events.now (number - 1))) }
 {
     match events.get(number.saturating_sub(1)) {

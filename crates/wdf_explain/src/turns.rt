@@ -49,13 +49,7 @@ fn found(turn: Turn, depth: usize) -> Option<usize>
     ensures { result ≡ found turn depth }
 {
     match turn {
-        Turn::Comes(frame) => {
-            if depth == 0 {
-                Some(frame)
-            } else {
-                None
-            }
-        }
+        Turn::Comes(frame) => { if depth == 0 { Some(frame) } else { None } }
         _ => None,
     }
 }

@@ -46,11 +46,7 @@ fn having_of<A: Agent>(parts: &Parts<A>, plan: &IndexedPlan, object: ObjectId, k
 }
 
 /// How an object is.
-fn standing_in<A: Agent>(
-    parts: &Parts<A>,
-    plan: &IndexedPlan,
-    object: Handle,
-) -> Standing
+fn standing_in<A: Agent>(parts: &Parts<A>, plan: &IndexedPlan, object: Handle) -> Standing
     ensures { result ≡ standing_in plan.now parts.now object }
 {
     let kind = parts.tree().kind(object.id);

@@ -38,7 +38,7 @@ by_word false n m j = no_form
 
 -- the word `shrink` and a number ask for no table
 no_shrink : (b : Bool) (n j : ℕ) → NamesRange (if b then Some (Shrink n j) else None)
-no_shrink true n j from count jitter same = absurd (let no : ⊥ = cc in no)
+no_shrink true n j = λ from count jitter same. absurd (let no : ⊥ = cc in no)
 no_shrink false n j = no_form
 
 -- ---- where words are numbers
@@ -55,8 +55,8 @@ with_number word n j = no_shrink (bytes_eq word (codes "shrink")) n j
 
 -- one word alone asks for no table
 no_word : (a b : Bool) → NamesRange (if a then Some Sum else (if b then Some Explain else None))
-no_word true b from count jitter same = absurd (let z : ⊥ = cc in z)
-no_word false true from count jitter same = absurd (let z : ⊥ = cc in z)
+no_word true b = λ from count jitter same. absurd (let z : ⊥ = cc in z)
+no_word false true = λ from count jitter same. absurd (let z : ⊥ = cc in z)
 no_word false false = no_form
 
 pub range_of_form : (words : List (List ℕ)) → NamesRange (form_of_words words)

@@ -1,5 +1,5 @@
 -- The words that `kmdfhunt` serves. (own)
-use Rattle.std.specs.Prelude.{if◌then◌else◌, ℕ, ◌+◌, ◌^◌, ◌&&◌, nat_lt, nat_le, List, [], ◌∷◌, Option, Some, None, bytes_eq, codes}
+use Rattle.std.specs.Prelude.{if◌then◌else◌, ℕ, ◌+◌, ◌^◌, ◌&&◌, nat_lt, nat_le, Bool, List, [], ◌∷◌, Option, Some, None, bytes_eq, codes}
 use Rattle.std.specs.Option.{option_and_then}
 use Rattle.wdf_top.specs.Words.{number_word}
 use Rattle.wdf_jitter.specs.declared.moved.TheConstants.{LAST_TICK}
@@ -8,9 +8,11 @@ use Rattle.wdf_hunt.specs.declared.words.Form.TheVariants.{Seeds, Shrink, Sum, E
 use Rattle.wdf_hunt.specs.declared.words.Range.{Range}
 
 -- a range of seeds: one at least and less than 2 ^ 32, and none of them past the last seed
+abbrev pub is_range : ℕ → ℕ → Bool
+is_range from count = nat_lt 0 count && nat_lt count (2 ^ 32) && nat_le (from + count) (2 ^ 64)
+
 abbrev pub seeds_form : ℕ → ℕ → ℕ → Option Form
-seeds_form from count jitter =
-    if nat_lt 0 count && nat_lt count (2 ^ 32) && nat_le (from + count) (2 ^ 64) then Some (Seeds from count jitter) else None
+seeds_form from count jitter = if is_range from count then Some (Seeds from count jitter) else None
 
 -- the form of one word alone
 abbrev pub form_of_word : List ℕ → Option Form
@@ -51,19 +53,17 @@ form_of_words _ = None
 abbrev pub usual_range : Range
 usual_range = record { from = 0; count = 100 }
 
--- a range of seeds, if it is one
-abbrev pub range_of : Option Form → Option Range
-range_of (Some (Seeds from count jitter)) = Some (record { from = from; count = count })
-range_of _ = None
+-- the seeds that two numbers name, if they are a range
+abbrev pub range_of : ℕ → ℕ → Option Range
+range_of from count = if is_range from count then Some (record { from = from; count = count }) else None
 
--- the seeds that two numbers name
-abbrev pub numbers_range : Option ℕ → Option ℕ → Option Range
-numbers_range (Some from) (Some count) = range_of (seeds_form from count 0)
-numbers_range None count = None
-numbers_range (Some from) None = None
+-- a suite is asked for by the word `test`
+abbrev pub suite_with : List ℕ → Option Range → Option Range
+suite_with word range = if bytes_eq word (codes "test") then range else None
 
 -- Over which seeds the words ask for a suite, if they do: `test FOLDER`, with a range of seeds or without.
 abbrev pub suite_of_words : List (List ℕ) → Option Range
-suite_of_words (word ∷ folder ∷ []) = if bytes_eq word (codes "test") then Some usual_range else None
-suite_of_words (word ∷ folder ∷ from ∷ count ∷ []) = if bytes_eq word (codes "test") then numbers_range (number_word from) (number_word count) else None
+suite_of_words (word ∷ folder ∷ []) = suite_with word (Some usual_range)
+suite_of_words (word ∷ folder ∷ from ∷ count ∷ []) =
+    option_and_then (λ n. option_and_then (λ m. suite_with word (range_of n m)) (number_word count)) (number_word from)
 suite_of_words _ = None

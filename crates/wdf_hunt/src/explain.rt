@@ -68,12 +68,7 @@ fn tell_ending<K: Sink>(alloc: Global, core: &Core<AnyAgent>, sink: &mut K) -> u
 }
 
 /// Judges a trace on a core without events, and writes the story of its ending, or which line is bad.
-fn tell_trace<K: Sink>(
-    alloc: Global,
-    core: &mut Core<AnyAgent>,
-    trace: &[u8],
-    sink: &mut K,
-) -> u8
+fn tell_trace<K: Sink>(alloc: Global, core: &mut Core<AnyAgent>, trace: &[u8], sink: &mut K) -> u8
     requires resolved { IsResolved core.old.plan }
     requires fresh { core.old.journal ≡ [] }
     ensures told { TellsExplained core.old.plan trace.now

@@ -102,7 +102,7 @@ fn bad_line(alloc: Global, number: u64, name: &[u8], reason: &[u8]) -> Result<Te
 
 /// What is said of a row, with a line feed.
 fn row_reason(alloc: Global, row: Option<&Row>) -> Result<Text, Memory>
-    ensures { IfOk result (λ reason. reason ≡ row_reason (option_copied row)) }
+    ensures { IfOk result (λ reason. reason ≡ row_reason (option_copied row.entry)) }
 {
     let mut out = Text::new(alloc);
     if let Some(row) = row {

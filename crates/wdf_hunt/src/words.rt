@@ -1,6 +1,6 @@
 //! The words of the program.
-ghost use Rattle.std.specs.Prelude.{◌≡◌, ◌+◌, ◌≤◌, ◌^◌, IfSome, map, string_bytes};
-ghost use Rattle.wdf_hunt.specs.Words.{form_of_word, form_of_words, form_with_number, form_with_numbers, jitter_in, jitter_of, numbers_range, seeds_form, suite_of_words};
+ghost use Rattle.std.specs.Prelude.{◌≡◌, ◌+◌, ◌<◌, ◌≤◌, ◌^◌, IfSome, IsTrue, map, string_bytes};
+ghost use Rattle.wdf_hunt.specs.Words.{form_of_word, form_of_words, form_with_number, form_with_numbers, jitter_in, jitter_of, is_range, range_of, seeds_form, suite_of_words, suite_with};
 
 use wdf_jitter::LAST_TICK;
 use wdf_top::number_word;
@@ -22,11 +22,20 @@ pub enum Form {
 /// A range has fewer seeds than this.
 const COUNT_LIMIT: u64 = 0x1_0000_0000;
 
+/// Whether so many seeds from this one on are a range of seeds.
+fn is_range(from: u64, count: u64) -> bool
+    ensures value { result ≡ is_range from count }
+    ensures few { IsTrue result → count < 2 ^ 32 }
+    ensures fits { IsTrue result → from + count ≤ 2 ^ 64 }
+{
+    count > 0 && count < COUNT_LIMIT && count - 1 <= u64::MAX - from
+}
+
 /// So many seeds from this one on, where they are a range of seeds.
 fn seeds_form(from: u64, count: u64, jitter: u32) -> Option<Form>
     ensures { result ≡ seeds_form from count jitter }
 {
-    if count > 0 && count < COUNT_LIMIT && count - 1 <= u64::MAX - from {
+    if is_range(from, count) {
         Some(Form::Seeds {
             from,
             count: count as u32,
@@ -135,41 +144,43 @@ const USUAL_RANGE: Range = Range {
 };
 
 /// The seeds that two numbers name, if they are a range.
-fn numbers_range(from: Option<u64>, count: Option<u64>) -> Option<Range>
-    ensures { result ≡ numbers_range from count }
+fn range_of(from: u64, count: u64) -> Option<Range>
+    ensures value { result ≡ range_of from count }
+    ensures fits { IfSome result (λ range. range.from + range.count ≤ 2 ^ 64) }
 {
-    match seeds_form(from?, count?, 0) {
-        Some(Form::Seeds { from, count, .. }) => Some(Range { from, count }),
-        _ => None,
+    if is_range(from, count) {
+        Some(Range {
+            from,
+            count: count as u32,
+        })
+    } else {
+        None
     }
 }
 
-fn suite_range(words: &[String]) -> Option<Range>
-    ensures { result ≡ suite_of_words (map string_bytes words.now) }
+/// The seeds of a suite, where the word asks for one.
+fn suite_with(word: &str, range: Option<Range>) -> Option<Range>
+    requires { IfSome range (λ r. r.from + r.count ≤ 2 ^ 64) }
+    ensures value { result ≡ suite_with word.now range }
+    ensures fits { IfSome result (λ r. r.from + r.count ≤ 2 ^ 64) }
 {
-    match words {
-        [word, _] => {
-            if word.as_str() == "test" {
-                Some(USUAL_RANGE)
-            } else {
-                None
-            }
-        }
-        [word, _, from, count] => {
-            if word.as_str() == "test" {
-                numbers_range(number_word(from.as_bytes()), number_word(count.as_bytes()))
-            } else {
-                None
-            }
-        }
-        _ => None,
-    }
+    if word == "test" { range } else { None }
 }
 
 /// Over which seeds the words ask for a suite, if they do: `test FOLDER`, or `test FOLDER FROM COUNT`.
 pub fn suite_of(words: &[String]) -> Option<Range>
-    ensures range { result ≡ suite_of_words (map string_bytes words.now) }
+    ensures value { result ≡ suite_of_words (map string_bytes words.now) }
     ensures fits { IfSome result (λ range. range.from + range.count ≤ 2 ^ 64) }
 {
-    suite_range(words)
+    match words {
+        [word, _] => suite_with(word.as_str(), Some(USUAL_RANGE)),
+        [word, _, from, count] => suite_with(
+            word.as_str(),
+            range_of(
+                number_word(from.as_bytes())?,
+                number_word(count.as_bytes())?,
+            ),
+        ),
+        _ => None,
+    }
 }

@@ -109,12 +109,7 @@ fn moved_lines(
 /// # Errors
 ///
 /// [`Memory`] where memory was refused.
-pub fn moved_scene(
-    alloc: Global,
-    most: u32,
-    words: &[u64],
-    scene: &Scene,
-) -> Result<Scene, Memory>
+pub fn moved_scene(alloc: Global, most: u32, words: &[u64], scene: &Scene) -> Result<Scene, Memory>
     requires { length scene.now.lines ≤ length words.now }
     ensures moved { IfOk result (λ moved. moved ≡ moved_scene most words.now scene.now) }
     ensures scene { IsScene scene.now → IfOk result IsScene }

@@ -6,19 +6,19 @@ use Rattle.wdf_hunt.proofs.top.shrink.Goals as goal
 
 pub tell_story-requires : goal.tell_story-requires
 tell_story-requires g c =
-    let read = c.in-Ok.ensures in record {
+    let read = c.in-Ok.ensures.case in record {
       scene = stands_scene read.0 c.in-Ok.case.scene read.1.1;
       names = stands_properly read.0 c.in-Ok.case.scene read.1.1;
     }
 
 pub returns-in-Ok : goal.returns-in-Ok
 returns-in-Ok g c = record {
-  told = due_told (λ tried text status. IsStoryText (with_jitter c.args.jitter tried) c.args.seed text status) _ _ c.in-Ok.case _ c.in-Ok.ensures c.tell_story.ensures.told;
+  told = due_told (λ tried text status. IsStoryText (with_jitter c.args.jitter tried) c.args.seed text status) _ _ c.in-Ok.case _ c.in-Ok.ensures.case c.tell_story.ensures.told;
   not_again = c.tell_story.ensures.not_again;
 }
 
 pub returns-in-Err : goal.returns-in-Err
 returns-in-Err g c = record {
-  told = case_refusal_told (λ tried text status. IsStoryText (with_jitter c.args.jitter tried) c.args.seed text status) _ _ c.in-Err.refusal _ c.in-Err.ensures c.tell_refusal.ensures.said;
+  told = case_refusal_told (λ tried text status. IsStoryText (with_jitter c.args.jitter tried) c.args.seed text status) _ _ c.in-Err.refusal _ c.in-Err.ensures.refused c.tell_refusal.ensures.said;
   not_again = c.tell_refusal.ensures.not_again;
 }

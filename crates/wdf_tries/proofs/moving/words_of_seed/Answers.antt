@@ -25,5 +25,5 @@ returns-clause-words c =
 pub returns-clause-length : goal.returns-clause-length
 returns-clause-length c =
     let all = none_left c.args.count c.loop-turn._turn c.loop-turn.words.items (next_words c.args.count (stream_of splitmix_steps c.args.seed)) (stream_of splitmix_steps c.loop-turn.stream)
-        (omega arith) c.loop-turn.invariant in
+    (omega arith) c.loop-turn.invariant in
     ap length all ∙ words_len c.args.count (stream_of splitmix_steps c.args.seed)

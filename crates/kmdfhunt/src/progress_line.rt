@@ -41,7 +41,9 @@ impl<'a, R: Clock + Eprint> Line<'a, R> {
         let _written = if done == count {
             eprint!(rt; "\r\x1b[K")
         } else {
-            eprint!(rt; "\r{done} of {count} seeds, {a_second} a second, {left} s left, {kinds} kinds\x1b[K")
+            eprint!(rt;
+                "\r{done} of {count} seeds, {a_second} a second, {left} s left, {kinds} kinds\x1b[K"
+            )
         };
     }
 }
