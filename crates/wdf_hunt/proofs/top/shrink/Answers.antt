@@ -4,16 +4,15 @@ use Rattle.wdf_hunt.specs.Answers.{IsStoryText, with_jitter}
 use Rattle.wdf_hunt.proofs.Told.{case_refusal_told, due_told}
 use Rattle.wdf_hunt.proofs.top.shrink.Goals as goal
 
-pub tell_story-requires : goal.tell_story-requires
-tell_story-requires g c =
-    let read = c.in-Ok.ensures.case in record {
-      scene = stands_scene read.0 c.in-Ok.case.scene read.1.1;
-      names = stands_properly read.0 c.in-Ok.case.scene read.1.1;
-    }
+pub tell_story-requires-clause-scene : goal.tell_story-requires-clause-scene
+tell_story-requires-clause-scene g c = rw c.with_jitter.ensures (stands_scene c.in-Ok.ensures.case.0 c.in-Ok.case.scene c.in-Ok.ensures.case.1.1)
+
+pub tell_story-requires-clause-names : goal.tell_story-requires-clause-names
+tell_story-requires-clause-names g c = rw c.with_jitter.ensures (stands_properly c.in-Ok.ensures.case.0 c.in-Ok.case.scene c.in-Ok.ensures.case.1.1)
 
 pub returns-in-Ok : goal.returns-in-Ok
 returns-in-Ok g c = record {
-  told = due_told (λ tried text status. IsStoryText (with_jitter c.args.jitter tried) c.args.seed text status) _ _ c.in-Ok.case _ c.in-Ok.ensures.case c.tell_story.ensures.told;
+  told = due_told (λ tried text status. IsStoryText (with_jitter c.args.jitter tried) c.args.seed text status) _ _ c.in-Ok.case _ c.in-Ok.ensures.case (rw c.with_jitter.ensures at c.tell_story.ensures.told);
   not_again = c.tell_story.ensures.not_again;
 }
 
