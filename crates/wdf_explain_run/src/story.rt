@@ -11,17 +11,6 @@ use wdf_core::Core;
 use wdf_explain::{Doing, story_of};
 use wdf_writing::Text;
 
-/// The events of a run.
-fn events_of<A: Agent>(alloc: Global, core: &Core<A>) -> Result<Vec<Event>, Memory>
-    ensures { IfOk result (λ events. events.items ≡ core.now.journal) }
-{
-    let mut events = Vec::new(alloc);
-    for k in 0..core.journal_len() {
-        events.push(core.journal_at(k))?;
-    }
-    Ok(events)
-}
-
 /// The wait list of a run.
 fn waits_of<A: Agent>(alloc: Global, core: &Core<A>) -> Result<Vec<WaitLine>, Memory>
     ensures { IfOk result (λ waits. waits.items ≡ wait_list core.now.plan A.meaning core.now.journal) }
@@ -48,13 +37,12 @@ fn doing_at_end<A: Agent>(core: &Core<A>, events: &[Event]) -> Option<Doing>
 pub fn story_of_run<A: Agent>(alloc: Global, core: &Core<A>) -> Result<Text, Memory>
     ensures { IfOk result (λ text. text ≡ story core.now.plan A.meaning core.now.journal) }
 {
-    let events = events_of(alloc, core)?;
     let waits = waits_of(alloc, core)?;
-    let doing = doing_at_end(core, events.as_slice());
+    let doing = doing_at_end(core, core.journal());
     story_of(
         alloc,
         core.plan(),
-        events.as_slice(),
+        core.journal(),
         core.ending(),
         waits.as_slice(),
         &doing,
