@@ -2,6 +2,7 @@
 use Rattle.std.proofs.Common.{◌≡◌, ℕ, zero, suc, ◌+◌, ◌-◌, ◌<◌, List, length, get_or, Option, Some, None, slice_get, refl, sym, subst, ap, ◌∙◌, arith}
 use Rattle.std.proofs.lemmas.Option.{slice_get-get_or}
 use Rattle.wdf_base.specs.declared.event.Event.{Event}
+use Rattle.wdf_explain.specs.declared.turns.Turn.{Turn}
 use Rattle.wdf_explain.specs.About.{depth_before, found, frame_under, or_else, turn_if_any, turn_of}
 
 -- the turn of the event before so many events are left
@@ -34,3 +35,17 @@ some_found cpu run zero depth f d some less is = absurd (omega (arith, some))
 some_found cpu run (suc n) depth f d some less is =
     let one : suc n - 1 ≡ n = omega arith in
     some_by cpu run n depth f d (subst (λ k. k < length run) one less) (subst (λ k. found (turn_of cpu (suc n) (get_or run k d)) depth ≡ Some f) one is)
+
+-- ---- as the search has it
+
+pub goes_on : (cpu : ℕ) (run : List Event) (left depth next : ℕ) (turn : Turn) (d : Event) (r target : Option ℕ) → 0 < left → left - 1 < length run → turn ≡ turn_of cpu left (get_or run (left - 1) d)
+    → r ≡ found turn depth → r ≡ None → next ≡ depth_before turn depth → frame_under cpu run left depth ≡ target → frame_under cpu run (left - 1) next ≡ target
+goes_on cpu run left depth next turn d r target some less is found_is none next_is before =
+    let nothing : found (turn_of cpu left (get_or run (left - 1) d)) depth ≡ None = ap (λ t. found t depth) (sym is) ∙ sym found_is ∙ none in
+    ap (frame_under cpu run (left - 1)) (next_is ∙ ap (λ t. depth_before t depth) is) ∙ sym (none_found cpu run left depth d some less nothing) ∙ before
+
+pub comes_to : (cpu : ℕ) (run : List Event) (left depth frame : ℕ) (turn : Turn) (d : Event) (r target : Option ℕ) → 0 < left → left - 1 < length run → turn ≡ turn_of cpu left (get_or run (left - 1) d)
+    → r ≡ found turn depth → r ≡ Some frame → frame_under cpu run left depth ≡ target → Some frame ≡ target
+comes_to cpu run left depth frame turn d r target some less is found_is there before =
+    let here : found (turn_of cpu left (get_or run (left - 1) d)) depth ≡ Some frame = ap (λ t. found t depth) (sym is) ∙ sym found_is ∙ there in
+    sym (some_found cpu run left depth frame d some less here) ∙ before

@@ -7,12 +7,15 @@ use crate::numbers::push_last;
 use crate::rules::rule_of;
 use crate::standing::push_standing;
 use crate::told::{Doing, Standing};
-use crate::words::{push_between, push_intent, push_numbered, push_three};
+use crate::words::{
+    callback_bytes, fault_bytes, push_between, push_intent, push_numbered, push_three,
+};
 use std::alloc::Global;
 use wdf_base::{Cpu, Event, Fault, Handle, Intent, Memory, Plan};
 use wdf_writing::Text;
 
 /// Adds the heading of the events about an object.
+#[tactic(auto, unfolding(crate::specs::Stories::heading_text))]
 fn push_heading(out: &mut Text, plan: &Plan, object: Handle) -> Result<(), Memory>
     ensures { OnOk result (out.new ≡ out.old ++ heading_text plan.now object) }
 {
@@ -51,6 +54,7 @@ fn push_if_any(
 }
 
 /// Adds the heading of the events on a processor.
+#[tactic(auto, unfolding(crate::specs::Stories::cpu_heading))]
 fn push_cpu_heading(out: &mut Text, cpu: Cpu) -> Result<(), Memory>
     ensures { OnOk result (out.new ≡ out.old ++ cpu_heading cpu) }
 {
@@ -100,7 +104,7 @@ fn push_objects(
 fn push_callback(out: &mut Text, plan: &Plan, doing: &Doing) -> Result<(), Memory>
     ensures { OnOk result (out.new ≡ out.old ++ callback_text plan.now doing.now) }
 {
-    out.push(doing.callback.word().as_bytes())?;
+    out.push(callback_bytes(doing.callback))?;
     push_between(out, plan, b" of ", doing.object, b" began on cpu")
 }
 
@@ -108,7 +112,7 @@ fn push_callback(out: &mut Text, plan: &Plan, doing: &Doing) -> Result<(), Memor
 fn push_began(out: &mut Text, doing: &Doing) -> Result<(), Memory>
     ensures { OnOk result (out.new ≡ out.old ++ began_text doing.now) }
 {
-    out.push_number(u64::from(doing.cpu.0))?;
+    out.push_number(doing.cpu.0 as u64)?;
     push_numbered(
         out,
         b" with event ",
@@ -118,6 +122,7 @@ fn push_began(out: &mut Text, doing: &Doing) -> Result<(), Memory>
 }
 
 /// Adds what it was about to do.
+#[tactic(auto, unfolding(crate::specs::Stories::about_text))]
 fn push_about(out: &mut Text, plan: &Plan, doing: &Doing) -> Result<(), Memory>
     ensures { OnOk result (out.new ≡ out.old ++ about_text plan.now doing.now) }
 {
@@ -126,6 +131,7 @@ fn push_about(out: &mut Text, plan: &Plan, doing: &Doing) -> Result<(), Memory>
 }
 
 /// Adds the callback of a frame, and what it was about to do.
+#[tactic(auto, unfolding(crate::specs::Stories::doing_text))]
 fn push_doing(out: &mut Text, plan: &Plan, doing: &Doing) -> Result<(), Memory>
     ensures { OnOk result (out.new ≡ out.old ++ doing_text plan.now doing.now) }
 {
@@ -154,6 +160,7 @@ fn push_doing_story(
 }
 
 /// Adds how many events there were.
+#[tactic(auto, unfolding(crate::specs::Stories::ended_text))]
 fn push_ended(out: &mut Text, events: usize) -> Result<(), Memory>
     ensures { OnOk result (out.new ≡ out.old ++ ended_text events) }
 {
@@ -164,11 +171,12 @@ fn push_ended(out: &mut Text, events: usize) -> Result<(), Memory>
 fn push_place(out: &mut Text, fault: Fault, line: u32) -> Result<(), Memory>
     ensures { OnOk result (out.new ≡ out.old ++ place_text fault line) }
 {
-    out.push(fault.word().as_bytes())?;
+    out.push(fault_bytes(fault))?;
     push_numbered(out, b" at line ", line as usize, b".\n")
 }
 
 /// Adds its rule.
+#[tactic(auto, unfolding(crate::specs::Stories::rule_line))]
 fn push_rule(out: &mut Text, fault: Fault) -> Result<(), Memory>
     ensures { OnOk result (out.new ≡ out.old ++ rule_line fault) }
 {
@@ -176,6 +184,7 @@ fn push_rule(out: &mut Text, fault: Fault) -> Result<(), Memory>
 }
 
 /// Adds how many events there were, and a fault with its line and its rule.
+#[tactic(auto, unfolding(crate::specs::Stories::fault_text))]
 fn push_fault(out: &mut Text, events: usize, fault: Fault, line: u32) -> Result<(), Memory>
     ensures { OnOk result (out.new ≡ out.old ++ fault_text events fault line) }
 {
@@ -185,6 +194,7 @@ fn push_fault(out: &mut Text, events: usize, fault: Fault, line: u32) -> Result<
 }
 
 /// Adds the story of a fault.
+#[tactic(auto, unfolding(crate::specs::Stories::told_fault))]
 fn push_told(
     alloc: Global,
     out: &mut Text,

@@ -7,7 +7,7 @@ ghost use Rattle.wdf_explain.specs.Standings.{having_text, holder_text, kept_tex
 use crate::asked::Asked;
 use crate::numbers::last_number;
 use crate::told::{Having, Standing};
-use crate::words::{push_between, push_numbered, push_object, push_three, push_with};
+use crate::words::{push_between, push_numbered, push_object, push_three, push_with, status_bytes};
 use std::alloc::Global;
 use wdf_base::{Event, Handle, Life, Mark, Memory, Plan, Status};
 use wdf_writing::Text;
@@ -87,7 +87,7 @@ fn push_closing(out: &mut Text, status: Status) -> Result<(), Memory>
     push_three(
         out,
         b" The framework is about to complete it with ",
-        status.word().as_bytes(),
+        status_bytes(status),
         b".",
     )
 }
@@ -189,6 +189,7 @@ fn life_bytes(life: Life) -> &'static [u8]
 }
 
 /// Adds who has an object, and how far its cancel has come.
+#[tactic(auto, unfolding(crate::specs::Standings::who_text))]
 fn push_who(
     alloc: Global,
     out: &mut Text,
@@ -203,6 +204,7 @@ fn push_who(
 }
 
 /// Adds its references, and how far its deletion has come.
+#[tactic(auto, unfolding(crate::specs::Standings::kept_text))]
 fn push_life(out: &mut Text, standing: &Standing) -> Result<(), Memory>
     ensures { OnOk result (out.new ≡ out.old ++ kept_text standing.now) }
 {
@@ -211,6 +213,7 @@ fn push_life(out: &mut Text, standing: &Standing) -> Result<(), Memory>
 }
 
 /// Adds how an object is, in one line.
+#[tactic(auto, unfolding(crate::specs::Standings::standing_text))]
 pub(crate) fn push_standing(
     alloc: Global,
     out: &mut Text,

@@ -1,5 +1,6 @@
 //! The story of a stuck run.
-ghost use Rattle.std.specs.Prelude.{◌≡◌, ◌++◌, OnOk};
+ghost use Rattle.std.specs.Prelude.{◌≡◌, ◌++◌, OnOk, codes};
+ghost use Rattle.wdf_lines.specs.Endings.{wait_text};
 ghost use Rattle.wdf_explain.specs.Stories.{in_callback, numbered_text, open_text, owned_since, owned_story, see_text, stuck_story, stuck_text, wait_stories, wait_story};
 
 use crate::asked::Asked;
@@ -71,15 +72,23 @@ fn push_see(out: &mut Text, line: Option<usize>) -> Result<(), Memory>
     }
 }
 
+/// Adds a line of the wait list after a colon.
+fn push_text(out: &mut Text, plan: &Plan, wait: &WaitLine) -> Result<(), Memory>
+    ensures { OnOk result (out.new ≡ out.old ++ (codes ": " ++ wait_text plan.now wait.now ++ codes "\n")) }
+{
+    push_three(out, b": ", wait_line(plan, wait).bytes(), b"\n")
+}
+
 /// Adds a line of the wait list with this number.
 fn push_line(out: &mut Text, plan: &Plan, number: usize, wait: &WaitLine) -> Result<(), Memory>
     ensures { OnOk result (out.new ≡ out.old ++ numbered_text plan.now number wait.now) }
 {
     out.push_number(number as u64)?;
-    push_three(out, b": ", wait_line(plan, wait).bytes(), b"\n")
+    push_text(out, plan, wait)
 }
 
 /// Adds why it is open, and the line for which it waits.
+#[tactic(auto, unfolding(crate::specs::Stories::open_text))]
 fn push_open(out: &mut Text, waits: &[WaitLine], wait: &WaitLine) -> Result<(), Memory>
     ensures { OnOk result (out.new ≡ out.old ++ open_text waits.now wait.now) }
 {
@@ -90,6 +99,7 @@ fn push_open(out: &mut Text, waits: &[WaitLine], wait: &WaitLine) -> Result<(), 
 }
 
 /// Adds a line of the wait list with this number, why it is open, and the line for which it waits.
+#[tactic(auto, unfolding(crate::specs::Stories::wait_story))]
 fn push_wait(
     alloc: Global,
     out: &mut Text,
@@ -125,6 +135,7 @@ fn push_waits(
 }
 
 /// Adds how many events there were.
+#[tactic(auto, unfolding(crate::specs::Stories::stuck_text))]
 fn push_stuck(out: &mut Text, events: usize) -> Result<(), Memory>
     ensures { OnOk result (out.new ≡ out.old ++ stuck_text events) }
 {

@@ -2,12 +2,34 @@
 ghost use Rattle.std.specs.Prelude.{◌≡◌, ◌++◌, OnOk, codes, decimal, option_map, slice_get};
 ghost use Rattle.wdf_base.specs.Kinds.{class_name};
 ghost use Rattle.wdf_base.specs.Resolved.{register_name};
+ghost use Rattle.wdf_base.specs.Words.{callback_word, fault_word, status_word};
 ghost use Rattle.wdf_lines.specs.Lines.{argument_text, argument_words, named, object_text, register_text, spaced, value_text};
 ghost use Rattle.wdf_explain.specs.Words.{call_text, intent_text};
 
-use wdf_base::{Arg, Call, Handle, Intent, Memory, Plan, Value};
+use wdf_base::{Arg, Call, Callback, Fault, Handle, Intent, Memory, Plan, Status, Value};
 use wdf_lines::name_bytes;
 use wdf_writing::Text;
+
+/// The word of a callback.
+pub(crate) fn callback_bytes(callback: Callback) -> &'static [u8]
+    ensures { result.now ≡ callback_word callback }
+{
+    callback.word().as_bytes()
+}
+
+/// The word of a fault.
+pub(crate) fn fault_bytes(fault: Fault) -> &'static [u8]
+    ensures { result.now ≡ fault_word fault }
+{
+    fault.word().as_bytes()
+}
+
+/// The word of a status.
+pub(crate) fn status_bytes(status: Status) -> &'static [u8]
+    ensures { result.now ≡ status_word status }
+{
+    status.word().as_bytes()
+}
 
 /// Adds an object.
 pub(crate) fn push_object(out: &mut Text, plan: &Plan, object: Handle) -> Result<(), Memory>
