@@ -24,6 +24,20 @@ fn plan_of_scene(alloc: Global, scene: &Scene) -> Result<Plan, Memory>
     }
 }
 
+/// The most events of a run of a scene's plan.
+///
+/// # Errors
+///
+/// [`Memory`] where memory was refused, or where the scene has no plan.
+pub fn limit_of(alloc: Global, scene: &Scene) -> Result<u32, Memory>
+    requires scene { IsScene scene.now }
+    requires names { HasProperNames scene.now }
+    ensures { IfOk result (λ limit. limit ≡ (plan_of scene.now).limit) }
+{
+    let plan = plan_of_scene(alloc, scene)?;
+    Ok(plan.limit())
+}
+
 /// The opening of the run of a scene's plan, with its agents.
 ///
 /// # Errors
@@ -45,7 +59,7 @@ pub fn opened(alloc: Global, scene: &Scene) -> Result<Core<AnyAgent>, Memory>
 /// # Errors
 ///
 /// [`Memory`] where memory for the agents was refused; the core is as it was then.
-pub fn reopen(alloc: Global, core: &mut Core<AnyAgent>) -> Result<(), Memory>
+pub(crate) fn reopen(alloc: Global, core: &mut Core<AnyAgent>) -> Result<(), Memory>
     ensures plan { core.new.plan ≡ core.old.plan }
     ensures journal { OnOk result (core.new.journal ≡ []) }
 {
