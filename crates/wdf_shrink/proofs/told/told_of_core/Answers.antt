@@ -9,6 +9,6 @@ pub returns : goal.returns
 returns c = record {
   run = c.args.core.now.journal;
   picked = c.requires.picked;
-  kind_is = c.in_ok-kind.ensures ∙ ap (λ (plan : Plan). kind_of c.args.case.now.expectations plan agent_meaning c.args.core.now.journal) c.requires.plan;
+  kind_is = (rw c.as_slice.ensures at c.in_ok-kind.ensures) ∙ ap (λ (plan : Plan). kind_of c.args.case.now.expectations plan agent_meaning c.args.core.now.journal) c.requires.plan;
   events_is = c.journal_len.ensures.length;
 }
