@@ -22,7 +22,6 @@ ghost use Rattle.law_at_rest.specs.Rest.{AllOver, AllPlayed, AsksAreDue, Nothing
 
 /// Where a run has finished or is stuck, no frame spends time, and no timer and no agent waits for a later tick. What an
 /// agent has due doesn't fit the machine's table of posts, so it can't come. It holds for any plan and any agents.
-#[tactic(auto, using(crate::proofs::Rest::nothing_comes))]
 pub fn nothing_comes<A>()
     ensures { (plan : Plan) (m : Meaning A) (run : List Event) → (ending_of plan m run ≡ ending.Finished) ⊎ (ending_of plan m run ≡ ending.Stuck)
         → NothingComes plan m (state_after plan m run) }

@@ -36,14 +36,12 @@ pub fn runs_see_no_numbers<A>()
 {}
 
 /// The same with the agents of `wdf_dev`, where each device has the same actions in the same order.
-#[tactic(auto, using(crate::proofs::Agents::usual_picked))]
 pub fn usual_picked_runs_see_no_numbers()
     ensures { (one two : Plan) → without_lines one ≡ without_lines two → SameActions one two
         → (picks : List ℕ) (run : List Event) → IsPickedRun one agent_meaning picks run → HasLikePicked one two agent_meaning picks run }
 {}
 
 /// And of any run with them.
-#[tactic(auto, using(crate::proofs::Agents::usual_run))]
 pub fn usual_runs_see_no_numbers()
     ensures { (one two : Plan) → without_lines one ≡ without_lines two → SameActions one two
         → (run : List Event) → IsRunOf one agent_meaning run → HasLikeRun one two agent_meaning run }

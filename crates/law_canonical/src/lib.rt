@@ -18,33 +18,28 @@ ghost use Rattle.law_bare.specs.Lines.{without_lines};
 
 /// The canonical text of a scene is its own canonical form: a scene stands for it, the same but for line numbers, and it is the
 /// canonical text of that scene.
-#[tactic(auto, using(crate::proofs::Canonical::canonical_is))]
 pub fn canonical_texts_are_canonical()
     ensures { (input : List ℕ) (scene : Scene) (stands : StandsFor input scene) → IsCanonical (canonical_text scene.version stands.ws) scene }
 {}
 
 /// Of two scenes that are the same but for line numbers both have a plan or none has: where no line of one is refused, none of
 /// the other is.
-#[tactic(auto, using(crate::proofs::Refusals::refusals_alike))]
 pub fn refusals_see_no_numbers()
     ensures { (a b : Scene) → without_numbers a ≡ without_numbers b → first_refusal a ≡ None → first_refusal b ≡ None }
 {}
 
 /// And their plans are the same but for line numbers.
-#[tactic(auto, using(crate::proofs::Plans::plans_alike))]
 pub fn plans_see_no_numbers()
     ensures { (a b : Scene) → without_numbers a ≡ without_numbers b → without_lines (plan_of a) ≡ without_lines (plan_of b) }
 {}
 
 /// So the canonical text of a scene that has a plan has a plan, which is the same but for line numbers.
-#[tactic(auto, using(crate::proofs::Canonical::has_plan_too))]
 pub fn canonical_texts_have_plans()
     ensures { (input : List ℕ) (scene : Scene) (stands : StandsFor input scene) → first_refusal scene ≡ None → HasPlanToo (canonical_text scene.version stands.ws) scene }
 {}
 
 /// And its plan has the same picks and the same runs, with the agents of `wdf_dev`, but for line numbers: so the run that `order`
 /// makes of the canonical text has the same events but for the numbers in `step` and `fault`, and ends alike.
-#[tactic(auto, using(crate::proofs::Canonical::has_runs_too))]
 pub fn canonical_texts_have_the_same_runs()
     ensures { (input : List ℕ) (scene : Scene) (stands : StandsFor input scene) → first_refusal scene ≡ None → HasRunsToo (canonical_text scene.version stands.ws) scene }
 {}

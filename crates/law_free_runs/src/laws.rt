@@ -13,13 +13,11 @@ pub fn runs_are_free<A>()
 {}
 
 /// At each place of every free run, a lock is held at most once, and by a frame that is there.
-#[tactic(auto, using(crate::proofs::FreeStates::locks_agree))]
 pub fn free_locks_agree<A>()
     ensures { (plan : Plan) (run : List Event) (free : IsFreeRun A plan run) (n : ℕ) → n ≤ length run → LocksAgree (free.states n) }
 {}
 
 /// At each place of every free run, the object of a frame that is there isn't gone.
-#[tactic(auto, using(crate::proofs::FreeStates::frames_there))]
 pub fn free_frames_there<A>()
     ensures { (plan : Plan) (run : List Event) (free : IsFreeRun A plan run) (n : ℕ) → n ≤ length run → FramesThere (free.states n) }
 {}

@@ -8,13 +8,11 @@ ghost use Rattle.law_free_stops.specs.LocksApart.{LocksApart};
 ghost use Rattle.law_free_stops.specs.StopsWait.{StopsWait};
 
 /// At each place of every free run of a resolved plan, `settled` is the next step of each device with a callback EvtIoStop.
-#[tactic(auto, using(crate::proofs::FreeStops::stops_wait))]
 pub fn free_stops_wait<A>()
     ensures { (plan : Plan) (run : List Event) → IsResolved plan → (free : IsFreeRun A plan run) (n : ℕ) → n ≤ length run → StopsWait (free.states n) }
 {}
 
 /// At each place of every free run, callbacks with one lock don't run at one time.
-#[tactic(auto, using(crate::proofs::Alone::locks_apart))]
 pub fn free_locks_apart<A>()
     ensures { (plan : Plan) (run : List Event) (free : IsFreeRun A plan run) (n : ℕ) → n ≤ length run → LocksApart plan (free.states n) }
 {}

@@ -14,7 +14,6 @@ ghost use Rattle.law_lines.specs.Framework.{is_of_framework};
 ghost use Rattle.law_lines.specs.PostNumbers.{PostNumbersFit};
 
 /// In every state, the handle of an object has a name of a resolved plan.
-#[tactic(auto, using(crate::proofs::ProperNames::handle_name))]
 pub fn handles_are_named<A>()
     ensures { (plan : Plan) (S : State A) → IsResolved plan → (o : ℕ) → (handle_in plan S o).name < length plan.names }
 {}
@@ -22,14 +21,12 @@ pub fn handles_are_named<A>()
 /// An event of the framework that may follow a run of a resolved plan is an event of the plan. Such an event is the start
 /// of a callback, a frame's leaving or coming back, a stage, a completion by the framework, a cleanup, a destruction, or
 /// a tick.
-#[tactic(auto, using(crate::proofs::OfPlan::framework_of_plan))]
 pub fn framework_events_are_of_plan<A>()
     ensures { (plan : Plan) (m : Meaning A) (run : List Event) (place : ℕ) (e : Event) → IsResolved plan → IsRunOf plan m run
         → slice_get (ready plan m run) place ≡ Some e → is_of_framework e ≡ true → IsEventOf plan e }
 {}
 
 /// A post that may follow a run of a resolved plan is an event of the plan, where its numbers fit 64 bits.
-#[tactic(auto, using(crate::proofs::Posting::posts_of_plan))]
 pub fn posts_are_of_plan<A>()
     ensures { (plan : Plan) (m : Meaning A) (run : List Event) (place agent : ℕ) (p : Post) (a : Option Handle) → IsResolved plan → IsRunOf plan m run
         → slice_get (ready plan m run) place ≡ Some (event.Posted agent p a) → PostNumbersFit p → IsEventOf plan (event.Posted agent p a) }

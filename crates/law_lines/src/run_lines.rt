@@ -32,13 +32,11 @@ pub fn wait_lines_unfed()
 
 /// Texts without line feeds are told from what they make together, each with its line feed: no two lists of them make
 /// the same bytes.
-#[tactic(auto, using(crate::proofs::Cut::cut_once))]
 pub fn lines_are_cut_once()
     ensures { (us vs : List (List ℕ)) → list_all has_no_feed us ≡ true → list_all has_no_feed vs ≡ true → as_lines us ≡ as_lines vs → us ≡ vs }
 {}
 
 /// Two runs of a resolved plan that have ended, and whose events are of the plan, are one where their texts are the same.
-#[tactic(auto, using(crate::proofs::OneRun::same_text))]
 pub fn one_run_a_text<A>()
     ensures { (plan : Plan) (m : Meaning A) → IsResolved plan → (a b : List Event) → IsRunOf plan m a → IsRunOf plan m b
         → ending_of plan m a ≢ ending.Running → ending_of plan m b ≢ ending.Running → HasEventsOf plan a → HasEventsOf plan b

@@ -9,26 +9,22 @@ ghost use Rattle.law_machine_states.specs.States.{FramesBeforeCleanup, MarksAgre
 
 /// At each place of every run, a request that is marked cancelable is owned and isn't cancelled, and one whose
 /// EvtRequestCancel is due is owned and is cancelled.
-#[tactic(auto, using(crate::proofs::Plain::marks_agree_at_each))]
 pub fn marks_agree<A>()
     ensures { (plan : Plan) (m : Meaning A) (run : List Event) → IsRunOf plan m run → (n : ℕ) → MarksAgree (state_after plan m (take n run)) }
 {}
 
 /// At each place of every run, no frame runs on a cleaned or gone object, but for that of a destroy callback.
-#[tactic(auto, using(crate::proofs::Early::frames_at_each))]
 pub fn frames_before_cleanup<A>()
     ensures { (plan : Plan) (m : Meaning A) (run : List Event) → IsRunOf plan m run → (n : ℕ) → FramesBeforeCleanup (state_after plan m (take n run)) }
 {}
 
 /// At each place of every run, all objects below a cleaned one are cleaned or gone.
-#[tactic(auto, using(crate::proofs::Ancestors::nothing_below_at_each))]
 pub fn nothing_below_cleaned<A>()
     ensures { (plan : Plan) (m : Meaning A) (run : List Event) → IsRunOf plan m run → (n : ℕ) → NothingBelowCleaned (state_after plan m (take n run)) }
 {}
 
 /// At each place of every run of a resolved plan, the parent of an object that isn't gone isn't gone, but for the driver
 /// object, which has none. So no gone object comes between an object and those above it.
-#[tactic(auto, using(crate::proofs::Parents::parents_there_at_each))]
 pub fn parents_there<A>()
     ensures { (plan : Plan) (m : Meaning A) (run : List Event) → IsResolved plan → IsRunOf plan m run → (n : ℕ) → ParentsThere (state_after plan m (take n run)) }
 {}

@@ -12,7 +12,6 @@ ghost use Rattle.law_machine_states.specs.Settled.{NothingUnsettled};
 /// At each place of every run of a resolved plan, the steps of a device that are under way are the end of a list that the
 /// machine gives. They are the step whose callback runs, if there is one, followed by the steps left. The list is one of
 /// those for the device's phase, or the tail after a failure.
-#[tactic(auto, using(crate::proofs::Runs::courses_at_each))]
 pub fn steps_come_from_lists<A>()
     ensures { (plan : Plan) (m : Meaning A) (run : List Event) → IsResolved plan → IsRunOf plan m run → (n : ℕ) → StepsComeFromLists (state_after plan m (take n run)) }
 {}
@@ -20,7 +19,6 @@ pub fn steps_come_from_lists<A>()
 /// At each place of every run of a resolved plan, nothing is unsettled of a device whose queues are down and whose next
 /// step isn't `settled`. That is: the driver holds no request from the device's power-managed queues that isn't
 /// acknowledged. So it is from `settled` to the next `queues_up`.
-#[tactic(auto, using(crate::proofs::UnsettledRuns::nothing_unsettled_at_each))]
 pub fn nothing_unsettled<A>()
     ensures { (plan : Plan) (m : Meaning A) (run : List Event) → IsResolved plan → IsRunOf plan m run → (n : ℕ) → NothingUnsettled (state_after plan m (take n run)) }
 {}

@@ -6,7 +6,6 @@ ghost use Rattle.law_lines.specs.Fitting.{HasFittingNumbers};
 
 /// Whatever events of a plan whose numbers fit the agents of `wdf_dev` have heard, the numbers of what they post and of what
 /// they show fit 64 bits.
-#[tactic(auto, using(crate::proofs::Fitting::agents_of_plan))]
 pub fn agents_fit()
     ensures { (plan : Plan) → HasFittingNumbers plan → HasFittingAgents plan agent_meaning }
 {}

@@ -7,7 +7,6 @@ ghost use Rattle.law_lines.specs.Fitting.{HasFittingNumbers};
 
 /// The plan of the scene that stands for a text of at most 1,048,576 bytes has numbers that fit 64 bits and lines that fit
 /// 32 bits.
-#[tactic(auto, using(crate::proofs::Plans::plan_fits))]
 pub fn plans_of_texts_fit()
     ensures { (text : List ℕ) (scene : Scene) → length text ≤ 1048576 → StandsFor text scene → HasFittingNumbers (plan_of scene) }
 {}

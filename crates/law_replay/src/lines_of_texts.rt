@@ -17,7 +17,6 @@ pub fn lines_of_texts<A>()
 {}
 
 /// For a resolved plan: the text of a run that has ended, and whose events are of the plan, is one that `replay` accepts.
-#[tactic(auto, using(crate::proofs::Cut::text_whole))]
 pub fn texts_are_whole<A>()
     ensures { (plan : Plan) (m : Meaning A) (run : List Event) (trace : List ℕ) → IsResolved plan → IsRunOf plan m run → ending_of plan m run ≢ Running
         → HasEventsOf plan run → trace ≡ text_of plan m run → IsWhole plan m trace run }

@@ -18,14 +18,12 @@ ghost use Rattle.law_lines.specs.Fitting.{HasFittingNumbers};
 
 /// For a resolved plan and agents whose numbers fit, a trace is one of those that `replay` accepts, with this run, exactly
 /// where the run has ended and the trace is its text.
-#[tactic(auto, using(crate::proofs::Whole::whole_exactly))]
 pub fn texts_of_runs_are_whole<A>()
     ensures { (plan : Plan) (m : Meaning A) (run : List Event) (trace : List ℕ) → IsResolved plan → HasFittingNumbers plan → HasFittingAgents plan m
         → IsWhole plan m trace run ↔ (IsRunOf plan m run × (ending_of plan m run ≢ Running) × (trace ≡ text_of plan m run)) }
 {}
 
 /// Each event of a run of a text's plan, with the agents of `wdf_dev`, is an event of the plan.
-#[tactic(auto, using(crate::proofs::Whole::events_of_text))]
 pub fn runs_of_texts_are_of_plan()
     ensures { (text : List ℕ) (scene : Scene) (run : List Event) → length text ≤ 1048576 → StandsFor text scene → first_refusal scene ≡ None
         → IsRunOf (plan_of scene) agent_meaning run → HasEventsOf (plan_of scene) run }
@@ -33,7 +31,6 @@ pub fn runs_of_texts_are_of_plan()
 
 /// For a text's plan and the agents of `wdf_dev`, a trace is one of those that `replay` accepts, with this run, exactly where
 /// the run has ended and the trace is its text.
-#[tactic(auto, using(crate::proofs::Whole::whole_by_text))]
 pub fn traces_of_texts_are_whole()
     ensures { (text : List ℕ) (scene : Scene) (run : List Event) (trace : List ℕ) → length text ≤ 1048576 → StandsFor text scene → first_refusal scene ≡ None
         → IsWhole (plan_of scene) agent_meaning trace run

@@ -11,27 +11,23 @@ ghost use Rattle.law_replay.specs.Claims.{AcceptsTexts, HasOneVerdict, IsAccepte
 
 /// A trace of a resolved plan has one verdict, whatever the agents are. Two refusals of it are of the same line for the same
 /// reason, two acceptances are with the same ending, and what is refused isn't accepted.
-#[tactic(auto, using(crate::proofs::OneVerdict::one_of_two))]
 pub fn one_verdict<A>()
     ensures { (plan : Plan) (m : Meaning A) → IsResolved plan → HasOneVerdict plan m }
 {}
 
 /// For a resolved plan whose numbers fit, and agents whose numbers fit, a trace is accepted exactly where it is the text of a
 /// run that has ended, with that run's ending.
-#[tactic(auto, using(crate::proofs::Exactly::accepts_texts))]
 pub fn texts_are_accepted<A>()
     ensures { (plan : Plan) (m : Meaning A) → IsResolved plan → HasFittingNumbers plan → HasFittingAgents plan m → AcceptsTexts plan m }
 {}
 
 /// The same of the plan of a text and the agents of `wdf_dev`, without a premise on numbers.
-#[tactic(auto, using(crate::proofs::Exactly::accepts_texts_of_plan))]
 pub fn texts_of_plans_are_accepted()
     ensures { (text : List ℕ) (plan : Plan) → IsPlanOf text plan → AcceptsTexts plan agent_meaning }
 {}
 
 /// The bytes determine the run. For the plan of a text and the agents of `wdf_dev`, two runs that have ended with one text are
 /// one run.
-#[tactic(auto, using(crate::proofs::Exactly::tells_runs))]
 pub fn texts_tell_runs()
     ensures { (text : List ℕ) (plan : Plan) → IsPlanOf text plan → TextsTellRuns plan agent_meaning }
 {}
@@ -39,7 +35,6 @@ pub fn texts_tell_runs()
 /// What a run writes is accepted. Let a scenario end in a line feed, with a line `trace` and the text of a run of its plan that
 /// has ended after it. The input's scenario and trace are these, and no verdict on the trace is another than that it is
 /// accepted, with the run's ending.
-#[tactic(auto, using(crate::proofs::Written::accepted_again))]
 pub fn written_runs_are_accepted()
     ensures { (scenario : List ℕ) (plan : Plan) → IsPlanOf scenario plan → EndsInFeed scenario → IsAcceptedAgain scenario plan agent_meaning }
 {}

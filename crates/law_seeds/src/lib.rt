@@ -9,7 +9,6 @@ ghost use Rattle.wdf_run.specs.Seeds.{seed_words};
 
 /// The first words of a number by which `gen N` makes a scenario are those by which `seed N` and `load N` pick, however many are
 /// taken. The scenario takes 2,900.
-#[tactic(auto, using(crate::proofs::Words::same_words))]
 pub fn words_of_seeds_are_one()
     ensures { (n count : ℕ) → words count (stream_of splitmix_steps n) ≡ seed_words n count }
 {}

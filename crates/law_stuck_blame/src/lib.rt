@@ -17,7 +17,6 @@ ghost use Rattle.law_stuck_blame.specs.Blame.{IsExplained};
 
 /// A stuck run is explained. Each line of its wait list whose form has causes names one, what it names is so, and no earlier
 /// cause of its row is. Where it names `cpus`, each processor that could take the start spins.
-#[tactic(auto, using(crate::proofs::Explained::explained))]
 pub fn each_line_is_explained<A>()
     ensures { (plan : Plan) (m : Meaning A) (run : List Event) → IsResolved plan → IsRunOf plan m run → ending_of plan m run ≡ ending.Stuck → IsExplained plan m run }
 {}

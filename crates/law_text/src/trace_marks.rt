@@ -15,14 +15,12 @@ pub fn marks_are_one_token()
 {}
 
 /// No line of a text for which a scene stands is the line `trace`.
-#[tactic(auto, using(crate::proofs::Parted::no_mark))]
 pub fn scenarios_have_no_mark()
     ensures { (text : List ℕ) (scene : Scene) → StandsFor text scene → has_no_mark text ≡ true }
 {}
 
 /// Let a scene stand for a scenario that ends in a line feed. Then the scenario, the line `trace` and any trace are an input
 /// with that scenario and that trace.
-#[tactic(auto, using(crate::proofs::Parted::parted_scene))]
 pub fn inputs_are_parted()
     ensures { (scenario trace : List ℕ) (scene : Scene) → StandsFor scenario scene → EndsInFeed scenario → IsParted scenario trace }
 {}

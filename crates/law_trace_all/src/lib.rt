@@ -10,7 +10,6 @@ ghost use Rattle.wdf_model.specs.rules.Ready.{IsRunOf};
 ghost use Rattle.law_trace_all.specs.Kept.{KeepsLaws};
 
 /// Every run of a resolved plan, with any agents, keeps the nine laws of a trace at each place.
-#[tactic(auto, using(crate::proofs::Together::all_kept))]
 pub fn runs_keep_laws<A>()
     ensures { (plan : Plan) (m : Meaning A) (run : List Event) → IsResolved plan → IsRunOf plan m run → KeepsLaws plan run }
 {}

@@ -1,0 +1,6 @@
+-- The clause is the lemma.
+use Rattle.law_bare.proofs.Agents.{usual_run}
+use Rattle.law_bare.proofs.usual_runs_see_no_numbers.Goals as goal
+
+pub returns : goal.returns
+returns c = usual_run
