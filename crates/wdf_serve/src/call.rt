@@ -7,7 +7,7 @@ ghost use Rattle.wdf_serve.specs.Words.{service_for};
 ghost use Rattle.wdf_top.specs.Top.{sourcing, Tells};
 
 use crate::run::serve_threaded;
-use crate::words::threaded;
+use crate::words::asked_of_threads;
 use std::alloc::Global;
 use std::sync::Wait;
 use std::thread::Threads;
@@ -62,7 +62,7 @@ fn answer<R: Threads + Wait + Sync, S: Source, K: Sink + Send, G: Gate + Sync>(
         result }
     ensures not_again { result ≡ 13 → EndsRefused K.refused K.faults sink.old sink.new }
 {
-    match threaded(words) {
+    match asked_of_threads(words) {
         Some(how) => serve_threaded(rt, alloc, how, source, sink, gate),
         None => top_plain(alloc, words, source, sink),
     }

@@ -12,7 +12,7 @@ pub enum Threaded {
 }
 
 /// What the words after the program's name ask of threads: `run` alone or `watch` alone; `None` exactly for other words.
-pub fn threaded(words: &[String]) -> Option<Threaded>
+pub fn asked_of_threads(words: &[String]) -> Option<Threaded>
     ensures { is_some result ≡ is_threaded (map string_bytes words.now) }
 {
     match words {

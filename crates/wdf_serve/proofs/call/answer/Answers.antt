@@ -6,12 +6,12 @@ use Rattle.wdf_serve.proofs.call.answer.Goals as goal
 
 pub returns-in-Some : goal.returns-in-Some
 returns-in-Some g c = record {
-  told = run_told (map string_bytes c.args.words.now) _ _ _ (sym c.threaded.ensures ∙ ap is_some c.in-Some.is) c.serve_threaded.ensures.told;
+  told = run_told (map string_bytes c.args.words.now) _ _ _ (sym c.asked_of_threads.ensures ∙ ap is_some c.in-Some.is) c.serve_threaded.ensures.told;
   not_again = c.serve_threaded.ensures.not_again;
 }
 
 pub returns-in-None : goal.returns-in-None
 returns-in-None g c = record {
-  told = form_told (map string_bytes c.args.words.now) _ _ _ (sym c.threaded.ensures ∙ ap is_some c.in-None.is) c.top_plain.ensures.promises.told;
+  told = form_told (map string_bytes c.args.words.now) _ _ _ (sym c.asked_of_threads.ensures ∙ ap is_some c.in-None.is) c.top_plain.ensures.promises.told;
   not_again = c.top_plain.ensures.not_again;
 }
