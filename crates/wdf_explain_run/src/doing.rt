@@ -1,11 +1,10 @@
 //! What a frame was about to do.
 ghost use Rattle.std.specs.Prelude.{◌≡◌};
-ghost use Rattle.std.specs.Option.{option_copied};
 ghost use Rattle.wdf_model.specs.parts.Cpus.{top};
-ghost use Rattle.wdf_explain_run.specs.Endings.{doing_of, faulted, first_of, second_of, third_of, top_doing};
+ghost use Rattle.wdf_explain_run.specs.Endings.{doing_of, first_of, second_of, third_of, top_doing};
 
 use crate::standing::standing_of;
-use wdf_base::{Agent, Arg, Cpu, Event, Frame, FrameId, Intent, Value};
+use wdf_base::{Agent, Arg, Cpu, Frame, FrameId, Intent, Value};
 use wdf_explain::Doing;
 use wdf_parts::Parts;
 use wdf_plan_index::IndexedPlan;
@@ -65,25 +64,11 @@ fn doing_of<A: Agent>(
 }
 
 /// What the top frame of a processor is about to do.
-fn top_doing<A: Agent>(parts: &Parts<A>, plan: &IndexedPlan, cpu: Cpu) -> Option<Doing>
+pub(crate) fn top_doing<A: Agent>(parts: &Parts<A>, plan: &IndexedPlan, cpu: Cpu) -> Option<Doing>
     ensures { result ≡ top_doing plan.now parts.now cpu (top parts.now.cpus cpu.0) }
 {
     let number = parts.cpus().top(cpu)?;
     let frame = parts.cpus().frame(number);
     let intent = next(plan.plan(), frame);
     Some(doing_of(parts, plan, cpu, number, frame, &intent))
-}
-
-/// What was about to be done where an event is a fault.
-pub(crate) fn faulted<A: Agent>(
-    parts: &Parts<A>,
-    plan: &IndexedPlan,
-    event: Option<&Event>,
-) -> Option<Doing>
-    ensures { result ≡ faulted plan.now parts.now (option_copied event) }
-{
-    match event {
-        Some(Event::Fault { cpu, .. }) => top_doing(parts, plan, *cpu),
-        _ => None,
-    }
 }

@@ -4,7 +4,7 @@ ghost use Rattle.wdf_model.specs.rules.Ready.{state_after};
 ghost use Rattle.wdf_model.specs.rules.Waits.{wait_list};
 ghost use Rattle.wdf_explain_run.specs.Endings.{faulted, story};
 
-use crate::doing::faulted;
+use crate::doing::top_doing;
 use std::alloc::Global;
 use wdf_base::{Agent, Event, Memory, WaitLine};
 use wdf_core::Core;
@@ -26,7 +26,10 @@ fn waits_of<A: Agent>(alloc: Global, core: &Core<A>) -> Result<Vec<WaitLine>, Me
 fn doing_at_end<A: Agent>(core: &Core<A>, events: &[Event]) -> Option<Doing>
     ensures { result ≡ faulted core.now.plan (state_after core.now.plan A.meaning core.now.journal) (slice_get events.now (length events.now - 1)) }
 {
-    faulted(core.parts(), core.indexed(), events.last())
+    match events.last() {
+        Some(Event::Fault { cpu, .. }) => top_doing(core.parts(), core.indexed(), *cpu),
+        _ => None,
+    }
 }
 
 /// The story of the ending of the run on a core.
@@ -34,6 +37,7 @@ fn doing_at_end<A: Agent>(core: &Core<A>, events: &[Event]) -> Option<Doing>
 /// # Errors
 ///
 /// [`Memory`] where memory was refused.
+#[tactic(auto, unfolding(crate::specs::Endings::story))]
 pub fn story_of_run<A: Agent>(alloc: Global, core: &Core<A>) -> Result<Text, Memory>
     ensures { IfOk result (λ text. text ≡ story core.now.plan A.meaning core.now.journal) }
 {
