@@ -1,7 +1,16 @@
 -- The try of each seed is added.
-use Rattle.std.proofs.Common.{◌≡◌, ◌+◌, ◌*◌, ◌^◌, ◌≤◌, ◌∙◌, refl, arith}
+use Rattle.std.proofs.Common.{◌≡◌, ◌+◌, ◌*◌, ◌^◌, ◌≤◌, ◌∙◌, ap, refl, arith}
+use Rattle.wdf_table.specs.Tables.{all_seeds}
 use Rattle.wdf_tries.proofs.Ranges.{none_so_far, one_more, hunt_of}
 use Rattle.wdf_tries.proofs.range.hunt_range.Goals as goal
+
+pub loop-k-init : goal.loop-k-init
+loop-k-init c = record {
+  so_far = none_so_far c.args.case.now c.args.from c.new-tally.result c.new-tally.ensures.rows c.new-tally.ensures.tally;
+  seeds = ap all_seeds c.new-tally.ensures.rows;
+  plan = c.in_ok-core.ensures.plan;
+  few = omega arith;
+}
 
 pub loop-k-preserved : goal.loop-k-preserved
 loop-k-preserved c = record {
