@@ -1,1 +1,2 @@
+pub mod NextWords
 pub mod Stories

@@ -1,4 +1,0 @@
-pub mod Backwards
-pub mod Pushed
-pub mod Rounds
-pub mod Walks
