@@ -6,11 +6,16 @@
 //! - **How many seeds?** From 1 to 2^32 - 1, none of them past the last seed. So counts fit, and so does the sum of events.
 #![tactic(auto)]
 
+mod explain;
 mod read;
 mod story;
+mod suite;
+mod sum;
 mod table;
 mod top;
 mod words;
 
+pub use suite::{suite_line, unread_file_line};
 pub use top::hunt;
-pub use words::Form;
+pub use wdf_hunters::Progress;
+pub use words::{Form, Range, suite_of};

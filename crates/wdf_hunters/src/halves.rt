@@ -1,7 +1,6 @@
 ghost use Rattle.std.specs.Prelude.{◌≡◌, ◌+◌, ◌-◌, ◌*◌, ◌/◌, ◌<◌, ◌≤◌, ◌^◌, ℕ, IfOk};
 ghost use Rattle.std.specs.Thread.{IsSync};
-ghost use Rattle.wdf_base.specs.declared.plan.Plan.{Plan};
-ghost use Rattle.wdf_plan.specs.Plans.{plan_of};
+ghost use Rattle.wdf_tries.specs.declared.tried.Case.{Case};
 ghost use Rattle.wdf_scene.specs.Naming.{HasProperNames};
 ghost use Rattle.wdf_scene.specs.Written.{IsScene};
 ghost use Rattle.wdf_table.specs.Tables.{all_seeds};
@@ -10,17 +9,16 @@ ghost use Rattle.wdf_tries.specs.Tries.{IsHuntOf};
 use std::alloc::Global;
 use std::thread::{Threads, join};
 use wdf_base::Memory;
-use wdf_scene::Scene;
-use wdf_tries::{Hunted, hunt_range};
+use wdf_tries::{Case, Hunted, hunt_range};
 
 /// A range with fewer seeds than this isn't halved.
 const FEW: u32 = 64;
 
 /// What two ranges come to that follow one another.
-fn both(first: Hunted, second: Hunted) -> Result<Hunted, Memory>
+pub(crate) fn both(first: Hunted, second: Hunted) -> Result<Hunted, Memory>
     requires seeds { all_seeds first.tally + all_seeds second.tally < 2 ^ 64 }
     requires events { first.events + second.events < 2 ^ 64 }
-    ensures hunt { (plan : Plan) (from m n : ℕ) → IsHuntOf plan from m first → IsHuntOf plan (from + m) n second → IfOk result (IsHuntOf plan from (m + n)) }
+    ensures hunt { (tried : Case) (from m n : ℕ) → IsHuntOf tried from m first → IsHuntOf tried (from + m) n second → IfOk result (IsHuntOf tried from (m + n)) }
     ensures seeds { IfOk result (λ hunted. all_seeds hunted.tally ≡ all_seeds first.tally + all_seeds second.tally) }
     ensures events { IfOk result (λ hunted. hunted.events ≡ first.events + second.events) }
 {
@@ -40,20 +38,20 @@ fn both(first: Hunted, second: Hunted) -> Result<Hunted, Memory>
 pub fn hunt_threads<R: Threads + Sync>(
     rt: &R,
     alloc: Global,
-    scene: &Scene,
+    case: &Case,
     from: u64,
     count: u32,
     halvings: u32,
 ) -> Result<Hunted, Memory>
-    requires scene { IsScene scene.now }
-    requires names { HasProperNames scene.now }
+    requires scene { IsScene case.now.scene }
+    requires names { HasProperNames case.now.scene }
     requires fits { from + count ≤ 2 ^ 64 }
-    ensures hunt { IfOk result (IsHuntOf (plan_of scene.now) from count) }
+    ensures hunt { IfOk result (IsHuntOf case.now from count) }
     ensures seeds { IfOk result (λ hunted. all_seeds hunted.tally ≡ count) }
     ensures events { IfOk result (λ hunted. hunted.events ≤ count * 2 ^ 32) }
 {
     if halvings == 0 || count < FEW {
-        return hunt_range(alloc, scene, from, count);
+        return hunt_range(alloc, case, from, count);
     }
     let half = count / 2;
     let rest = count - half;
@@ -61,13 +59,13 @@ pub fn hunt_threads<R: Threads + Sync>(
     let (first, second) = join(
         rt,
         || -> Result<Hunted, Memory>
-            requires { IsSync R.row × IsScene scene.now × HasProperNames scene.now × (from + half ≤ 2 ^ 64) × (0 < halvings) }
-            ensures { IfOk result (λ hunted. IsHuntOf (plan_of scene.entry.now) from half hunted × (all_seeds hunted.tally ≡ half) × (hunted.events ≤ half * 2 ^ 32)) }
-        { hunt_threads(rt, alloc, scene, from, half, halvings - 1) },
+            requires { IsSync R.row × IsScene case.now.scene × HasProperNames case.now.scene × (from + half ≤ 2 ^ 64) × (0 < halvings) }
+            ensures { IfOk result (λ hunted. IsHuntOf case.entry.now from half hunted × (all_seeds hunted.tally ≡ half) × (hunted.events ≤ half * 2 ^ 32)) }
+        { hunt_threads(rt, alloc, case, from, half, halvings - 1) },
         || -> Result<Hunted, Memory>
-            requires { IsSync R.row × IsScene scene.now × HasProperNames scene.now × (middle + rest ≤ 2 ^ 64) × (0 < halvings) }
-            ensures { IfOk result (λ hunted. IsHuntOf (plan_of scene.entry.now) middle rest hunted × (all_seeds hunted.tally ≡ rest) × (hunted.events ≤ rest * 2 ^ 32)) }
-        { hunt_threads(rt, alloc, scene, middle, rest, halvings - 1) },
+            requires { IsSync R.row × IsScene case.now.scene × HasProperNames case.now.scene × (middle + rest ≤ 2 ^ 64) × (0 < halvings) }
+            ensures { IfOk result (λ hunted. IsHuntOf case.entry.now middle rest hunted × (all_seeds hunted.tally ≡ rest) × (hunted.events ≤ rest * 2 ^ 32)) }
+        { hunt_threads(rt, alloc, case, middle, rest, halvings - 1) },
     );
     both(first?, second?)
 }

@@ -1,2 +1,1 @@
-pub mod NextWords
 pub mod Stories

@@ -3,17 +3,17 @@ use Rattle.std.proofs.Common.{ℕ, ◌≡◌, ◌≤◌, ◌&&◌, Bool, true, f
 use Rattle.std.proofs.lemmas.Bool.{false≢true}
 use Rattle.std.proofs.lemmas.Bool.Decides.{nat_tests}
 use Rattle.std.proofs.lemmas.Slice.Eq.{bytes_eq-Decides}
-use Rattle.wdf_base.specs.declared.plan.Plan.{Plan}
 use Rattle.wdf_model.specs.rules.Ready.{IsPickedRun}
 use Rattle.wdf_dev.specs.Agents.{agent_meaning}
 use Rattle.wdf_run.specs.Seeds.{seed_words}
-use Rattle.wdf_tries.specs.Tries.{kind_of}
+use Rattle.wdf_plan.specs.Plans.{plan_of}
+use Rattle.wdf_tries.specs.declared.tried.Case.{Case}
 use Rattle.wdf_shrink.specs.declared.told.Told.{Told}
 use Rattle.wdf_shrink.specs.Stories.{IsToldOf, IsStory, IsStoryOfSeed, ends_as}
 
 -- a run that ends in the kind of the goal, with no more events
-pub told_story : (plan : Plan) (picks : List ℕ) (told goal : Told) → IsToldOf plan picks told → told.kind ≡ goal.kind → told.events ≤ goal.events → IsStory plan goal.kind goal.events picks
-told_story plan picks told goal is same few = record {
+pub told_story : (tried : Case) (picks : List ℕ) (told goal : Told) → IsToldOf tried picks told → told.kind ≡ goal.kind → told.events ≤ goal.events → IsStory tried goal.kind goal.events picks
+told_story tried picks told goal is same few = record {
   run = is.run;
   picked = is.picked;
   kind_is = subst (λ k. k ≡ goal.kind) is.kind_is same;
@@ -25,20 +25,20 @@ both_hold true b h = (refl, h)
 both_hold false b h = absurd (false≢true h)
 
 -- so it is where that was tested
-pub ends_story : (plan : Plan) (picks : List ℕ) (told goal : Told) → IsToldOf plan picks told → ends_as told goal ≡ true → IsStory plan goal.kind goal.events picks
-ends_story plan picks told goal is h =
+pub ends_story : (tried : Case) (picks : List ℕ) (told goal : Told) → IsToldOf tried picks told → ends_as told goal ≡ true → IsStory tried goal.kind goal.events picks
+ends_story tried picks told goal is h =
     let both = both_hold (bytes_eq told.kind goal.kind) (nat_le told.events goal.events) h in
     let few : told.events ≤ goal.events = grind (arith, nat_tests, both.1) in
-    told_story plan picks told goal is ((bytes_eq-Decides told.kind goal.kind).0 both.0) few
+    told_story tried picks told goal is ((bytes_eq-Decides told.kind goal.kind).0 both.0) few
 
 -- a run is a story of the picks that made it
-pub own_story : (plan : Plan) (picks : List ℕ) (goal : Told) → IsToldOf plan picks goal → IsStory plan goal.kind goal.events picks
-own_story plan picks goal is = told_story plan picks goal goal is refl (omega arith)
+pub own_story : (tried : Case) (picks : List ℕ) (goal : Told) → IsToldOf tried picks goal → IsStory tried goal.kind goal.events picks
+own_story tried picks goal is = told_story tried picks goal goal is refl (omega arith)
 
-pub seed_story : (plan : Plan) (seed : ℕ) (words picks : List ℕ) (goal : Told) → words ≡ seed_words seed plan.limit → IsToldOf plan words goal → IsStory plan goal.kind goal.events picks
-    → IsStoryOfSeed plan seed picks
-seed_story plan seed words picks goal same is story = record {
+pub seed_story : (tried : Case) (seed : ℕ) (words picks : List ℕ) (goal : Told) → words ≡ seed_words seed (plan_of tried.scene).limit → IsToldOf tried words goal → IsStory tried goal.kind goal.events picks
+    → IsStoryOfSeed tried seed picks
+seed_story tried seed words picks goal same is story = record {
   run = is.run;
-  picked = subst (λ ws. IsPickedRun plan agent_meaning ws is.run) same is.picked;
-  story = subst (λ k. IsStory plan k (length is.run) picks) is.kind_is (subst (λ n. IsStory plan goal.kind n picks) is.events_is story);
+  picked = subst (λ ws. IsPickedRun (plan_of tried.scene) agent_meaning ws is.run) same is.picked;
+  story = subst (λ k. IsStory tried k (length is.run) picks) is.kind_is (subst (λ n. IsStory tried goal.kind n picks) is.events_is story);
 }

@@ -9,11 +9,11 @@
 //! - **Whose picks are they at first?** The words of the seed, and then the places that they name.
 #![tactic(auto)]
 
+mod places;
 mod search;
 mod story;
 mod text;
 mod told;
-mod words;
 
 pub use story::story_of_seed;
 pub use text::story_text;

@@ -1,6 +1,5 @@
 //! The search for plainer picks. Each step tries picks, and takes them where their run ends as the goal says.
 ghost use Rattle.std.specs.Prelude.{◌≡◌, OnOk};
-ghost use Rattle.wdf_plan.specs.Plans.{plan_of};
 ghost use Rattle.wdf_scene.specs.Naming.{HasProperNames};
 ghost use Rattle.wdf_scene.specs.Written.{IsScene};
 ghost use Rattle.wdf_shrink.specs.Stories.{IsStory};
@@ -8,7 +7,7 @@ ghost use Rattle.wdf_shrink.specs.Stories.{IsStory};
 use crate::told::{Told, is_story};
 use std::alloc::Global;
 use wdf_base::Memory;
-use wdf_scene::Scene;
+use wdf_tries::Case;
 
 /// How many steps each part of the search has.
 const STEPS: u32 = 500;
@@ -16,17 +15,17 @@ const STEPS: u32 = 500;
 /// Takes these picks where their run ends as the goal says, and answers whether it does.
 pub(crate) fn take(
     alloc: Global,
-    scene: &Scene,
+    case: &Case,
     goal: &Told,
     best: &mut Vec<u64>,
     picks: Vec<u64>,
 ) -> Result<bool, Memory>
-    requires scene { IsScene scene.now }
-    requires names { HasProperNames scene.now }
-    requires story { IsStory (plan_of scene.now) goal.now.kind goal.now.events best.old.items }
-    ensures { OnOk result (IsStory (plan_of scene.now) goal.now.kind goal.now.events best.new.items) }
+    requires scene { IsScene case.now.scene }
+    requires names { HasProperNames case.now.scene }
+    requires story { IsStory case.now goal.now.kind goal.now.events best.old.items }
+    ensures { OnOk result (IsStory case.now goal.now.kind goal.now.events best.new.items) }
 {
-    let is_taken = is_story(alloc, scene, goal, picks.as_slice())?;
+    let is_taken = is_story(alloc, case, goal, picks.as_slice())?;
     if is_taken {
         *best = picks;
     }
@@ -43,14 +42,14 @@ fn without_last(alloc: Global, picks: &[u64], count: usize) -> Result<Vec<u64>, 
 /// Cuts the tail, as much of it at a time as goes.
 pub(crate) fn cut_tail(
     alloc: Global,
-    scene: &Scene,
+    case: &Case,
     goal: &Told,
     best: &mut Vec<u64>,
 ) -> Result<(), Memory>
-    requires scene { IsScene scene.now }
-    requires names { HasProperNames scene.now }
-    requires story { IsStory (plan_of scene.now) goal.now.kind goal.now.events best.old.items }
-    ensures { OnOk result (IsStory (plan_of scene.now) goal.now.kind goal.now.events best.new.items) }
+    requires scene { IsScene case.now.scene }
+    requires names { HasProperNames case.now.scene }
+    requires story { IsStory case.now goal.now.kind goal.now.events best.old.items }
+    ensures { OnOk result (IsStory case.now goal.now.kind goal.now.events best.new.items) }
 {
     let mut count = best.len();
     for _step in 0..STEPS {
@@ -58,7 +57,7 @@ pub(crate) fn cut_tail(
             return Ok(());
         }
         let shorter = without_last(alloc, best.as_slice(), count)?;
-        if !take(alloc, scene, goal, best, shorter)? {
+        if !take(alloc, case, goal, best, shorter)? {
             count /= 2;
         }
     }
@@ -88,20 +87,20 @@ fn without_block(
 /// Sets a block of picks to 0, where that goes.
 fn clear_block(
     alloc: Global,
-    scene: &Scene,
+    case: &Case,
     goal: &Told,
     best: &mut Vec<u64>,
     from: usize,
     size: usize,
 ) -> Result<(), Memory>
-    requires scene { IsScene scene.now }
-    requires names { HasProperNames scene.now }
-    requires story { IsStory (plan_of scene.now) goal.now.kind goal.now.events best.old.items }
-    ensures { OnOk result (IsStory (plan_of scene.now) goal.now.kind goal.now.events best.new.items) }
+    requires scene { IsScene case.now.scene }
+    requires names { HasProperNames case.now.scene }
+    requires story { IsStory case.now goal.now.kind goal.now.events best.old.items }
+    ensures { OnOk result (IsStory case.now goal.now.kind goal.now.events best.new.items) }
 {
     if is_set(best.as_slice(), from, size) {
         let plainer = without_block(alloc, best.as_slice(), from, size)?;
-        take(alloc, scene, goal, best, plainer)?;
+        take(alloc, case, goal, best, plainer)?;
     }
     Ok(())
 }
@@ -109,14 +108,14 @@ fn clear_block(
 /// Sets blocks of picks to 0, halves first, then quarters, down to single picks.
 pub(crate) fn clear_blocks(
     alloc: Global,
-    scene: &Scene,
+    case: &Case,
     goal: &Told,
     best: &mut Vec<u64>,
 ) -> Result<(), Memory>
-    requires scene { IsScene scene.now }
-    requires names { HasProperNames scene.now }
-    requires story { IsStory (plan_of scene.now) goal.now.kind goal.now.events best.old.items }
-    ensures { OnOk result (IsStory (plan_of scene.now) goal.now.kind goal.now.events best.new.items) }
+    requires scene { IsScene case.now.scene }
+    requires names { HasProperNames case.now.scene }
+    requires story { IsStory case.now goal.now.kind goal.now.events best.old.items }
+    ensures { OnOk result (IsStory case.now goal.now.kind goal.now.events best.new.items) }
 {
     let mut size = best.len() / 2;
     let mut from = 0;
@@ -128,7 +127,7 @@ pub(crate) fn clear_blocks(
         if size == 0 {
             return Ok(());
         }
-        clear_block(alloc, scene, goal, best, from, size)?;
+        clear_block(alloc, case, goal, best, from, size)?;
         from = from.saturating_add(size);
     }
     Ok(())
@@ -146,14 +145,14 @@ fn with_half(alloc: Global, picks: &[u64], place: usize) -> Result<Vec<u64>, Mem
 /// Halves single picks, each as often as goes.
 pub(crate) fn lower_picks(
     alloc: Global,
-    scene: &Scene,
+    case: &Case,
     goal: &Told,
     best: &mut Vec<u64>,
 ) -> Result<(), Memory>
-    requires scene { IsScene scene.now }
-    requires names { HasProperNames scene.now }
-    requires story { IsStory (plan_of scene.now) goal.now.kind goal.now.events best.old.items }
-    ensures { OnOk result (IsStory (plan_of scene.now) goal.now.kind goal.now.events best.new.items) }
+    requires scene { IsScene case.now.scene }
+    requires names { HasProperNames case.now.scene }
+    requires story { IsStory case.now goal.now.kind goal.now.events best.old.items }
+    ensures { OnOk result (IsStory case.now goal.now.kind goal.now.events best.new.items) }
 {
     let mut at = 0;
     for _step in 0..STEPS {
@@ -161,7 +160,7 @@ pub(crate) fn lower_picks(
             return Ok(());
         }
         let lower = with_half(alloc, best.as_slice(), at)?;
-        if !is_set(best.as_slice(), at, 1) || !take(alloc, scene, goal, best, lower)? {
+        if !is_set(best.as_slice(), at, 1) || !take(alloc, case, goal, best, lower)? {
             at += 1;
         }
     }

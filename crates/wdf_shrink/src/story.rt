@@ -1,28 +1,15 @@
 //! The story of a seed.
 ghost use Rattle.std.specs.Prelude.{◌≡◌, IfOk, OnOk};
-ghost use Rattle.wdf_plan.specs.Plans.{plan_of};
-ghost use Rattle.wdf_run.specs.Seeds.{seed_words};
 ghost use Rattle.wdf_scene.specs.Naming.{HasProperNames};
 ghost use Rattle.wdf_scene.specs.Written.{IsScene};
 ghost use Rattle.wdf_shrink.specs.Stories.{IsStory, IsStoryOfSeed};
 
+use crate::places::places_of;
 use crate::search::{clear_blocks, cut_tail, lower_picks, take};
 use crate::told::{Told, told_of};
-use crate::words::{places_of, words_of_seed};
 use std::alloc::Global;
 use wdf_base::Memory;
-use wdf_scene::Scene;
-use wdf_tries::opened;
-
-/// The most events of a run of a scene's plan.
-fn limit_of(alloc: Global, scene: &Scene) -> Result<u32, Memory>
-    requires scene { IsScene scene.now }
-    requires names { HasProperNames scene.now }
-    ensures { IfOk result (λ limit. limit ≡ (plan_of scene.now).limit) }
-{
-    let core = opened(alloc, scene)?;
-    Ok(core.plan().limit())
-}
+use wdf_tries::{Case, limit_of, words_of_seed};
 
 /// Picks without the zeros at their end, since a missing pick is 0.
 fn without_zeros(alloc: Global, picks: &[u64]) -> Result<Vec<u64>, Memory> {
@@ -35,19 +22,19 @@ fn without_zeros(alloc: Global, picks: &[u64]) -> Result<Vec<u64>, Memory> {
 }
 
 /// Makes picks plainer whose run ends as the goal says.
-fn shrink(alloc: Global, scene: &Scene, goal: &Told, best: &mut Vec<u64>) -> Result<(), Memory>
-    requires scene { IsScene scene.now }
-    requires names { HasProperNames scene.now }
-    requires story { IsStory (plan_of scene.now) goal.now.kind goal.now.events best.old.items }
-    ensures { OnOk result (IsStory (plan_of scene.now) goal.now.kind goal.now.events best.new.items) }
+fn shrink(alloc: Global, case: &Case, goal: &Told, best: &mut Vec<u64>) -> Result<(), Memory>
+    requires scene { IsScene case.now.scene }
+    requires names { HasProperNames case.now.scene }
+    requires story { IsStory case.now goal.now.kind goal.now.events best.old.items }
+    ensures { OnOk result (IsStory case.now goal.now.kind goal.now.events best.new.items) }
 {
-    let places = places_of(alloc, scene, best.as_slice())?;
-    take(alloc, scene, goal, best, places)?;
-    cut_tail(alloc, scene, goal, best)?;
-    clear_blocks(alloc, scene, goal, best)?;
-    lower_picks(alloc, scene, goal, best)?;
+    let places = places_of(alloc, &case.scene, best.as_slice())?;
+    take(alloc, case, goal, best, places)?;
+    cut_tail(alloc, case, goal, best)?;
+    clear_blocks(alloc, case, goal, best)?;
+    lower_picks(alloc, case, goal, best)?;
     let shorter = without_zeros(alloc, best.as_slice())?;
-    take(alloc, scene, goal, best, shorter)?;
+    take(alloc, case, goal, best, shorter)?;
     Ok(())
 }
 
@@ -56,14 +43,14 @@ fn shrink(alloc: Global, scene: &Scene, goal: &Told, best: &mut Vec<u64>) -> Res
 /// # Errors
 ///
 /// [`Memory`] where memory was refused, or where the scene has no plan.
-pub fn story_of_seed(alloc: Global, scene: &Scene, seed: u64) -> Result<Vec<u64>, Memory>
-    requires scene { IsScene scene.now }
-    requires names { HasProperNames scene.now }
-    ensures { IfOk result (λ picks. IsStoryOfSeed (plan_of scene.now) seed picks.items) }
+pub fn story_of_seed(alloc: Global, case: &Case, seed: u64) -> Result<Vec<u64>, Memory>
+    requires scene { IsScene case.now.scene }
+    requires names { HasProperNames case.now.scene }
+    ensures { IfOk result (λ picks. IsStoryOfSeed case.now seed picks.items) }
 {
-    let limit = limit_of(alloc, scene)?;
-    let mut picks = words_of_seed(alloc, seed, limit)?;
-    let goal = told_of(alloc, scene, picks.as_slice())?;
-    shrink(alloc, scene, &goal, &mut picks)?;
+    let limit = limit_of(alloc, &case.scene)?;
+    let mut picks = words_of_seed(alloc, seed, u64::from(limit))?;
+    let goal = told_of(alloc, case, picks.as_slice())?;
+    shrink(alloc, case, &goal, &mut picks)?;
     Ok(picks)
 }

@@ -13,7 +13,7 @@ use wdf_core::Core;
 use wdf_dev::AnyAgent;
 use wdf_run::run_order;
 use wdf_scene::Scene;
-use wdf_tries::{kind_of, opened};
+use wdf_tries::{Case, kind_of, opened};
 use wdf_writing::Text;
 
 /// How a run ends.
@@ -37,27 +37,33 @@ fn run_of_picks(alloc: Global, scene: &Scene, picks: &[u64]) -> Result<Core<AnyA
     Ok(core)
 }
 
-/// How the run on a core ends, which these picks have made.
-fn told_of_core(alloc: Global, core: &Core<AnyAgent>, picks: &[u64]) -> Result<Told, Memory>
-    requires { IsPickedRun core.now.plan agent_meaning picks.now core.now.journal }
-    ensures { IfOk result (IsToldOf core.now.plan picks.now) }
+/// How the run of a case on a core ends, which these picks have made.
+fn told_of_core(
+    alloc: Global,
+    case: &Case,
+    core: &Core<AnyAgent>,
+    picks: &[u64],
+) -> Result<Told, Memory>
+    requires plan { core.now.plan ≡ plan_of case.now.scene }
+    requires picked { IsPickedRun (plan_of case.now.scene) agent_meaning picks.now core.now.journal }
+    ensures { IfOk result (IsToldOf case.now picks.now) }
 {
     let _picks = picks;
-    let kind = kind_of(alloc, core)?;
+    let kind = kind_of(alloc, core, case.expectations.as_slice())?;
     Ok(Told {
         kind,
         events: core.journal_len() as u64,
     })
 }
 
-/// How the run ends that picks make of a scene's plan.
-pub(crate) fn told_of(alloc: Global, scene: &Scene, picks: &[u64]) -> Result<Told, Memory>
-    requires scene { IsScene scene.now }
-    requires names { HasProperNames scene.now }
-    ensures { IfOk result (IsToldOf (plan_of scene.now) picks.now) }
+/// How the run ends that picks make of a case.
+pub(crate) fn told_of(alloc: Global, case: &Case, picks: &[u64]) -> Result<Told, Memory>
+    requires scene { IsScene case.now.scene }
+    requires names { HasProperNames case.now.scene }
+    ensures { IfOk result (IsToldOf case.now picks.now) }
 {
-    let core = run_of_picks(alloc, scene, picks)?;
-    told_of_core(alloc, &core, picks)
+    let core = run_of_picks(alloc, &case.scene, picks)?;
+    told_of_core(alloc, case, &core, picks)
 }
 
 /// Whether what is told of a run is the kind of the goal, with no more events.
@@ -70,14 +76,14 @@ fn ends_as(told: &Told, goal: &Told) -> bool
 /// Whether the run that picks make ends in the kind of the goal, with no more events.
 pub(crate) fn is_story(
     alloc: Global,
-    scene: &Scene,
+    case: &Case,
     goal: &Told,
     picks: &[u64],
 ) -> Result<bool, Memory>
-    requires scene { IsScene scene.now }
-    requires names { HasProperNames scene.now }
-    ensures { IfOk result (λ yes. IsTrue yes → IsStory (plan_of scene.now) goal.now.kind goal.now.events picks.now) }
+    requires scene { IsScene case.now.scene }
+    requires names { HasProperNames case.now.scene }
+    ensures { IfOk result (λ yes. IsTrue yes → IsStory case.now goal.now.kind goal.now.events picks.now) }
 {
-    let told = told_of(alloc, scene, picks)?;
+    let told = told_of(alloc, case, picks)?;
     Ok(ends_as(&told, goal))
 }

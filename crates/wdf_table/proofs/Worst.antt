@@ -1,17 +1,18 @@
--- A status of a table is one of four.
+-- A status of a table is one of five.
 use Rattle.std.proofs.Common.{if◌then◌else◌, ℕ, ◌≤◌, ◌==◌, Bool, true, false, List, [], ◌∷◌, codes, fold, min, nat_eq, arith}
 use Rattle.std.specs.List.{starts_with}
 use Rattle.wdf_table.specs.declared.row.Row.{Row}
 use Rattle.wdf_table.specs.Lines.{kind_status, worse, table_status}
 
-by_tests : (a b c : Bool) → (if a then 3 else (if b then 4 else (if c then 5 else 0))) ≤ 5
-by_tests true b c = omega arith
-by_tests false true c = omega arith
-by_tests false false true = omega arith
-by_tests false false false = omega arith
+by_tests : (r a b c : Bool) → (if r then 1 else (if a then 3 else (if b then 4 else (if c then 5 else 0)))) ≤ 5
+by_tests true a b c = omega arith
+by_tests false true b c = omega arith
+by_tests false false true c = omega arith
+by_tests false false false true = omega arith
+by_tests false false false false = omega arith
 
 kind_small : (kind : List ℕ) → kind_status kind ≤ 5
-kind_small kind = by_tests (starts_with nat_eq kind (codes "fault ")) (starts_with nat_eq kind (codes "stuck")) (starts_with nat_eq kind (codes "limit"))
+kind_small kind = by_tests (starts_with nat_eq kind (codes "broken: ")) (starts_with nat_eq kind (codes "fault ")) (starts_with nat_eq kind (codes "stuck")) (starts_with nat_eq kind (codes "limit"))
 
 worse_by : (a b : ℕ) (p q : Bool) → a ≤ 5 → b ≤ 5 → (if p then b else (if q then a else min a b)) ≤ 5
 worse_by a b true q h k = k

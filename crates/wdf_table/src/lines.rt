@@ -1,5 +1,6 @@
 ghost use Rattle.std.specs.Prelude.{◌≡◌, ◌+◌, ◌-◌, ◌<◌, ◌≤◌, ◌^◌, ◌++◌, IfOk, OnOk};
-ghost use Rattle.wdf_table.specs.Lines.{kind_status, row_lines, row_text, table_status, table_text, total_text, worse};
+ghost use Rattle.std.specs.Option.{option_copied};
+ghost use Rattle.wdf_table.specs.Lines.{has_status, kind_status, row_lines, row_text, table_status, table_text, total_text, worse, worst_row};
 
 use crate::row::Row;
 use crate::tally::Tally;
@@ -7,11 +8,13 @@ use std::alloc::Global;
 use wdf_base::Memory;
 use wdf_writing::Text;
 
-/// The status of a run that ends in a kind.
+/// The status of a run of a kind.
 fn kind_status(kind: &[u8]) -> u8
     ensures { result ≡ kind_status kind.now }
 {
-    if kind.starts_with(b"fault ") {
+    if kind.starts_with(b"broken: ") {
+        1
+    } else if kind.starts_with(b"fault ") {
         3
     } else if kind.starts_with(b"stuck") {
         4
@@ -22,7 +25,7 @@ fn kind_status(kind: &[u8]) -> u8
     }
 }
 
-/// The worse of two statuses: 3, then 4, then 5, then 0.
+/// The worse of two statuses: 1, then 3, 4 and 5, then 0.
 fn worse(a: u8, b: u8) -> u8
     ensures { result ≡ worse a b }
 {
@@ -33,6 +36,13 @@ fn worse(a: u8, b: u8) -> u8
     } else {
         a.min(b)
     }
+}
+
+/// Whether a row is of a kind with this status.
+fn has_status(status: u8, row: &Row) -> bool
+    ensures { result ≡ has_status status row.now }
+{
+    kind_status(row.kind.bytes()) == status
 }
 
 /// Adds the line of a row.
@@ -104,11 +114,19 @@ impl Tally {
         )
     }
 
-    /// The status of the rows: that of the worst kind, and 0 where each run finished.
+    /// The status of the rows: that of the worst kind, and 0 where each run finished or ended as expected.
     pub fn status(&self) -> u8
         ensures value { result ≡ table_status self.now }
         ensures small { result ≤ 5 }
     {
         self.worst()
+    }
+    /// The first row of the worst kind.
+    #[tactic(auto, unfolding(crate::specs::Lines::worst_row))]
+    pub fn worst_row(&self) -> Option<&Row>
+        ensures { option_copied result ≡ worst_row self.now }
+    {
+        let status = self.worst();
+        self.rows().iter().find(|row| has_status(status, row))
     }
 }

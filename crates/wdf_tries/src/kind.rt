@@ -1,12 +1,13 @@
-//! The kind in which a run ends.
+//! The kind of a run.
 ghost use Rattle.std.specs.Prelude.{◌≡◌, ◌-◌, IfOk};
 ghost use Rattle.wdf_kinds.specs.Kinds.{fault_line};
 ghost use Rattle.wdf_model.specs.rules.Waits.{wait_list};
-ghost use Rattle.wdf_tries.specs.Tries.{kind_of};
+ghost use Rattle.wdf_tries.specs.Tries.{ending_kind, kind_of};
 
 use std::alloc::Global;
 use wdf_base::{Agent, Memory, WaitLine};
 use wdf_core::Core;
+use wdf_expect::{Expectation, judged};
 use wdf_kinds::{kind_text, line_of_fault};
 use wdf_writing::Text;
 
@@ -32,13 +33,9 @@ fn waits_of<A: Agent>(alloc: Global, core: &Core<A>) -> Result<Vec<WaitLine>, Me
     Ok(waits)
 }
 
-/// The kind in which the run of a core ends.
-///
-/// # Errors
-///
-/// [`Memory`] where memory was refused.
-pub fn kind_of<A: Agent>(alloc: Global, core: &Core<A>) -> Result<Text, Memory>
-    ensures { IfOk result (λ kind. kind ≡ kind_of core.now.plan A.meaning core.now.journal) }
+/// The kind in which the run of a core ends, whatever is expected.
+fn ending_kind<A: Agent>(alloc: Global, core: &Core<A>) -> Result<Text, Memory>
+    ensures { IfOk result (λ kind. kind ≡ ending_kind core.now.plan A.meaning core.now.journal) }
 {
     let waits = waits_of(alloc, core)?;
     kind_text(
@@ -47,5 +44,29 @@ pub fn kind_of<A: Agent>(alloc: Global, core: &Core<A>) -> Result<Text, Memory>
         core.ending(),
         fault_line(core),
         waits.as_slice(),
+    )
+}
+
+/// The kind of the run of a core, by what is expected of it.
+///
+/// # Errors
+///
+/// [`Memory`] where memory was refused.
+pub fn kind_of<A: Agent>(
+    alloc: Global,
+    core: &Core<A>,
+    expectations: &[Expectation],
+) -> Result<Text, Memory>
+    ensures { IfOk result (λ kind. kind ≡ kind_of expectations.now core.now.plan A.meaning core.now.journal) }
+{
+    let kind = ending_kind(alloc, core)?;
+    judged(
+        alloc,
+        expectations,
+        core.plan(),
+        core.journal(),
+        core.ending(),
+        fault_line(core),
+        kind.bytes(),
     )
 }

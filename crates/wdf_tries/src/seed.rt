@@ -1,41 +1,46 @@
-ghost use Rattle.std.specs.Prelude.{◌≡◌, ◌<◌, ◌^◌, IfOk};
+ghost use Rattle.std.specs.Prelude.{◌≡◌, ◌<◌, ◌^◌, IfOk, OnOk};
 ghost use Rattle.wdf_dev.specs.Agents.{agent_meaning};
 ghost use Rattle.wdf_model.specs.rules.Ready.{IsPickedRun};
 ghost use Rattle.wdf_plan.specs.Plans.{plan_of};
 ghost use Rattle.wdf_scene.specs.Naming.{HasProperNames};
 ghost use Rattle.wdf_scene.specs.Written.{IsScene};
 ghost use Rattle.wdf_run.specs.Seeds.{seed_words};
-ghost use Rattle.wdf_tries.specs.Tries.{IsTryOf};
+ghost use Rattle.wdf_tries.specs.Tries.{IsTryBy, IsTryOf};
 
 use crate::kind::kind_of;
-use crate::opening::opened;
+use crate::moving::scene_for;
+use crate::opening::{opened, reopen};
+use crate::tried::Case;
 use std::alloc::Global;
 use wdf_base::Memory;
 use wdf_core::Core;
 use wdf_dev::AnyAgent;
+use wdf_expect::Expectation;
 use wdf_run::run_seed;
-use wdf_scene::Scene;
 use wdf_table::Row;
 
-/// The run that the words of a seed pick, at its end.
-fn run_of_seed(alloc: Global, scene: &Scene, seed: u64) -> Result<Core<AnyAgent>, Memory>
-    requires scene { IsScene scene.now }
-    requires names { HasProperNames scene.now }
-    ensures plan { IfOk result (λ core. core.plan ≡ plan_of scene.now) }
-    ensures picked { IfOk result (λ core. IsPickedRun (plan_of scene.now) agent_meaning (seed_words seed (plan_of scene.now).limit) core.journal) }
+/// Makes the run that the words of a seed pick, to its end, in a core that begins anew for it.
+fn run_again(alloc: Global, core: &mut Core<AnyAgent>, seed: u64) -> Result<(), Memory>
+    ensures plan { core.new.plan ≡ core.old.plan }
+    ensures picked { OnOk result (IsPickedRun core.old.plan agent_meaning (seed_words seed core.old.plan.limit) core.new.journal) }
 {
-    let mut core = opened(alloc, scene)?;
-    run_seed(&mut core, seed);
-    Ok(core)
+    reopen(alloc, core)?;
+    run_seed(core, seed);
+    Ok(())
 }
 
-/// The row of a run that the words of a seed have picked.
-fn row_of_run(alloc: Global, core: &Core<AnyAgent>, seed: u64) -> Result<Row, Memory>
+/// The row of a run that the words of a seed have picked, by what is expected of it.
+fn row_of_run(
+    alloc: Global,
+    core: &Core<AnyAgent>,
+    expectations: &[Expectation],
+    seed: u64,
+) -> Result<Row, Memory>
     requires { IsPickedRun core.now.plan agent_meaning (seed_words seed core.now.plan.limit) core.now.journal }
-    ensures row { IfOk result (IsTryOf core.now.plan seed) }
+    ensures row { IfOk result (IsTryBy core.now.plan expectations.now seed) }
     ensures few { IfOk result (λ row. row.events < 2 ^ 32) }
 {
-    let kind = kind_of(alloc, core)?;
+    let kind = kind_of(alloc, core, expectations)?;
     let _limit = core.plan().limit();
     Ok(Row {
         kind,
@@ -45,18 +50,47 @@ fn row_of_run(alloc: Global, core: &Core<AnyAgent>, seed: u64) -> Result<Row, Me
     })
 }
 
-/// The try of a seed: the kind in which its run ends, and how many events that has.
+/// The try of a seed by the plan of a core, which begins anew for it.
+fn try_again(
+    alloc: Global,
+    core: &mut Core<AnyAgent>,
+    expectations: &[Expectation],
+    seed: u64,
+) -> Result<Row, Memory>
+    ensures plan { core.new.plan ≡ core.old.plan }
+    ensures row { IfOk result (IsTryBy core.old.plan expectations.now seed) }
+    ensures few { IfOk result (λ row. row.events < 2 ^ 32) }
+    ensures one { IfOk result (λ row. row.count ≡ 1) }
+{
+    run_again(alloc, core, seed)?;
+    row_of_run(alloc, core, expectations, seed)
+}
+
+/// The try of a seed: the kind of its run, and how many events that has. Where nothing is moved the run is made in the
+/// given core of the case's plan, which begins anew for it; else in one of the moved scene's plan.
 ///
 /// # Errors
 ///
 /// [`Memory`] where memory was refused, or where the scene has no plan.
-pub fn try_seed(alloc: Global, scene: &Scene, seed: u64) -> Result<Row, Memory>
-    requires scene { IsScene scene.now }
-    requires names { HasProperNames scene.now }
-    ensures row { IfOk result (IsTryOf (plan_of scene.now) seed) }
+pub fn try_seed(
+    alloc: Global,
+    case: &Case,
+    core: &mut Core<AnyAgent>,
+    seed: u64,
+) -> Result<Row, Memory>
+    requires scene { IsScene case.now.scene }
+    requires names { HasProperNames case.now.scene }
+    requires plan { core.old.plan ≡ plan_of case.now.scene }
+    ensures plan { core.new.plan ≡ core.old.plan }
+    ensures row { IfOk result (IsTryOf case.now seed) }
     ensures few { IfOk result (λ row. row.events < 2 ^ 32) }
     ensures one { IfOk result (λ row. row.count ≡ 1) }
 {
-    let core = run_of_seed(alloc, scene, seed)?;
-    row_of_run(alloc, &core, seed)
+    let expectations = case.expectations.as_slice();
+    if case.jitter == 0 {
+        return try_again(alloc, core, expectations, seed);
+    }
+    let scene = scene_for(alloc, case, seed)?;
+    let mut moved = opened(alloc, &scene)?;
+    try_again(alloc, &mut moved, expectations, seed)
 }

@@ -5,7 +5,6 @@ use Rattle.wdf_hunt.proofs.read.read_scene.Goals as goal
 pub returns-clause-scene : goal.returns-clause-scene
 returns-clause-scene g c =
     let stands = rw c.deref.ensures.value at c.in_ok-scene.ensures.stands in (
-      c.in_ok-text.text.items,
       (c.in_ok-text.ensures.text, omega (arith, c.in_ok-text.ensures.small, c.in_ok-text.text.ok), c.in_ok-text.ensures.quiet (λ h. cc)),
       stands,
       c.in_ok-_plan.ensures.accepted,

@@ -7,10 +7,10 @@ use Rattle.wdf_hunt.proofs.top.hunt.Goals as goal
 
 pub seek-requires-clause-some : goal.seek-requires-clause-some
 seek-requires-clause-some g c = λ lifetimes outlive.
-    let same : form_of_words (map string_bytes c.args.words.now) ≡ Some (Seeds c.in-Some-Seeds.from c.in-Some-Seeds.count) = cc in
-    (range_of_form (map string_bytes c.args.words.now) c.in-Some-Seeds.from c.in-Some-Seeds.count same).some
+    let same : form_of_words (map string_bytes c.args.words.now) ≡ Some (Seeds c.in-Some-Seeds.from c.in-Some-Seeds.count c.in-Some-Seeds.jitter) = cc in
+    (range_of_form (map string_bytes c.args.words.now) c.in-Some-Seeds.from c.in-Some-Seeds.count c.in-Some-Seeds.jitter same).some
 
 pub seek-requires-clause-fits : goal.seek-requires-clause-fits
 seek-requires-clause-fits g c = λ lifetimes outlive.
-    let same : form_of_words (map string_bytes c.args.words.now) ≡ Some (Seeds c.in-Some-Seeds.from c.in-Some-Seeds.count) = cc in
-    (range_of_form (map string_bytes c.args.words.now) c.in-Some-Seeds.from c.in-Some-Seeds.count same).fits
+    let same : form_of_words (map string_bytes c.args.words.now) ≡ Some (Seeds c.in-Some-Seeds.from c.in-Some-Seeds.count c.in-Some-Seeds.jitter) = cc in
+    (range_of_form (map string_bytes c.args.words.now) c.in-Some-Seeds.from c.in-Some-Seeds.count c.in-Some-Seeds.jitter same).fits

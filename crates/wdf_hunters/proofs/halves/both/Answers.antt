@@ -4,5 +4,5 @@ use Rattle.wdf_hunters.proofs.Both.{hunt_of_both}
 use Rattle.wdf_hunters.proofs.halves.both.Goals as goal
 
 pub returns-clause-hunt : goal.returns-clause-hunt
-returns-clause-hunt c = λ plan from m n a b.
-    hunt_of_both plan from m n c.args.first c.args.second (record { tally = c.merge.new.self; events = c.args.first.events + c.args.second.events }) a b c.in_ok-merge.ensures.tally refl
+returns-clause-hunt c = λ tried from m n a b.
+    hunt_of_both tried from m n c.args.first c.args.second (record { tally = c.merge.new.self; events = c.args.first.events + c.args.second.events }) a b c.in_ok-merge.ensures.tally refl

@@ -1,7 +1,6 @@
 -- The best picks so far are a story.
-use Rattle.wdf_plan.specs.Plans.{plan_of}
 use Rattle.wdf_shrink.specs.Stories.{IsStory}
 use Rattle.wdf_shrink.proofs.search.clear_blocks.Given as goal
 
 abbrev pub invariant-loop-step : goal.invariant-loop-step
-invariant-loop-step l = IsStory (plan_of l.scene) l.goal.kind l.goal.events l.best.items
+invariant-loop-step l = IsStory l.case l.goal.kind l.goal.events l.best.items

@@ -7,7 +7,8 @@ use Rattle.wdf_tries.proofs.range.hunt_range.Given as goal
 
 abbrev pub invariant-loop-k : goal.invariant-loop-k
 invariant-loop-k l = record {
-  so_far : IsSoFar (plan_of l.scene) l.from l.k l.tally l.events;
+  so_far : IsSoFar l.case l.from l.k l.tally l.events;
   seeds : all_seeds l.tally ≡ l.k;
+  plan : l.core.plan ≡ plan_of l.case.scene;
   few : l.events ≤ l.k * 2 ^ 32;
 }

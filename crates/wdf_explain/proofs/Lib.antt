@@ -1,0 +1,4 @@
+pub mod Backwards
+pub mod Pushed
+pub mod Rounds
+pub mod Walks

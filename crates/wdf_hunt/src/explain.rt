@@ -1,0 +1,137 @@
+//! The story of a trace's ending.
+ghost use Rattle.std.specs.Prelude.{◌≡◌, ◌≤◌, [], IfErr, IfOk, length};
+ghost use Rattle.wdf_base.specs.Resolved.{IsResolved};
+ghost use Rattle.wdf_dev.specs.Agents.{agent_meaning};
+ghost use Rattle.wdf_explain_run.specs.Endings.{story};
+ghost use Rattle.wdf_io.specs.Outside.{EndsRefused};
+ghost use Rattle.wdf_output.specs.Said.{sinking};
+ghost use Rattle.wdf_top.specs.Answers.{HasPlan, refused_line, why_word};
+ghost use Rattle.wdf_top.specs.Causes.{IsTextCause};
+ghost use Rattle.wdf_top.specs.Top.{IsRead, Sourcing, TellsBy, sourcing};
+ghost use Rattle.wdf_hunt.specs.Explained.{TellsExplained, TellsStory, explaining};
+
+use crate::read::read_text;
+use std::alloc::Global;
+use wdf_base::Plan;
+use wdf_core::Core;
+use wdf_dev::AnyAgent;
+use wdf_explain_run::story_of_run;
+use wdf_io::{Sink, Source};
+use wdf_lines::Message;
+use wdf_output::{Refusal, say, tell};
+use wdf_parse::{TEXT_LIMIT, parse};
+use wdf_plan::resolve;
+use wdf_replay::{Verdict, Why, replay};
+use wdf_run_text::from_place;
+use wdf_split::split;
+use wdf_top::opening;
+
+/// The status of a trace that is refused.
+const REFUSED: u8 = 6;
+
+/// The word of a reason.
+fn why_word(why: Why) -> &'static [u8]
+    ensures value { result.now ≡ why_word why }
+    ensures small { length result.now ≤ 11 }
+{
+    match why {
+        Why::NotALine => b"NotALine",
+        Why::NotReady => b"NotReady",
+        Why::WrongEnding => b"WrongEnding",
+        Why::Missing => b"Missing",
+    }
+}
+
+/// The line of a trace of which this line is refused.
+fn refused_line(line: usize, why: Why) -> Message
+    ensures { result ≡ refused_line line why }
+{
+    let mut message = Message::new(b"refused at line ");
+    message.push_number(line as u64);
+    message.push(b": ");
+    message.push(why_word(why));
+    message.push(b"\n");
+    message
+}
+
+/// Writes the story of the ending of the run on a core, or the line `out of memory`.
+fn tell_ending<K: Sink>(alloc: Global, core: &Core<AnyAgent>, sink: &mut K) -> u8
+    ensures told { TellsStory (story core.now.plan agent_meaning core.now.journal)
+        (sinking (K.written sink.old) (K.written sink.new) (K.faults sink.old) (K.faults sink.new))
+        result }
+    ensures not_again { result ≡ 13 → EndsRefused K.refused K.faults sink.old sink.new }
+{
+    match story_of_run(alloc, core) {
+        Ok(text) => say(sink, text.bytes(), 0),
+        Err(memory) => tell(sink, Refusal::from(memory)),
+    }
+}
+
+/// Judges a trace on a core without events, and writes the story of its ending, or which line is bad.
+fn tell_trace<K: Sink>(alloc: Global, core: &mut Core<AnyAgent>, trace: &[u8], sink: &mut K) -> u8
+    requires resolved { IsResolved core.old.plan }
+    requires fresh { core.old.journal ≡ [] }
+    ensures told { TellsExplained core.old.plan trace.now
+        (sinking (K.written sink.old) (K.written sink.new) (K.faults sink.old) (K.faults sink.new))
+        result }
+    ensures not_again { result ≡ 13 → EndsRefused K.refused K.faults sink.old sink.new }
+{
+    match replay(core, trace) {
+        Verdict::Accepted(_) => tell_ending(alloc, core, sink),
+        Verdict::RefusedAt { line, why } => say(sink, refused_line(line, why).bytes(), REFUSED),
+    }
+}
+
+/// The same by a run from the plan's opening.
+fn tell_plan<K: Sink>(alloc: Global, plan: Plan, trace: &[u8], sink: &mut K) -> u8
+    requires { IsResolved plan }
+    ensures told { TellsExplained plan trace.now
+        (sinking (K.written sink.old) (K.written sink.new) (K.faults sink.old) (K.faults sink.new))
+        result }
+    ensures not_again { result ≡ 13 → EndsRefused K.refused K.faults sink.old sink.new }
+{
+    match opening::<AnyAgent>(alloc, plan) {
+        Ok(mut core) => tell_trace(alloc, &mut core, trace, sink),
+        Err(memory) => tell(sink, Refusal::from(memory)),
+    }
+}
+
+/// The plan of a text's scene.
+fn plan_of_text(alloc: Global, text: &[u8]) -> Result<Plan, Refusal>
+    requires { length text.now ≤ TEXT_LIMIT }
+    ensures plan { IfOk result (HasPlan text.now) }
+    ensures cause { IfErr result (IsTextCause text.now) }
+{
+    let scene = parse(alloc, text)?;
+    let plan = resolve(alloc, &scene)?;
+    Ok(plan)
+}
+
+/// Writes the story of an input's trace, or says why its scenario has no plan.
+fn explain_input<K: Sink>(alloc: Global, input: &[u8], sink: &mut K) -> u8
+    requires { length input.now ≤ TEXT_LIMIT }
+    ensures told { (s : Sourcing) → IsRead s input.now → TellsBy explaining s
+        (sinking (K.written sink.old) (K.written sink.new) (K.faults sink.old) (K.faults sink.new))
+        result }
+    ensures not_again { result ≡ 13 → EndsRefused K.refused K.faults sink.old sink.new }
+{
+    let parts = split(input);
+    match plan_of_text(alloc, &input[..parts.scenario]) {
+        Ok(plan) => tell_plan(alloc, plan, from_place(input, parts.trace), sink),
+        Err(refusal) => tell(sink, refusal),
+    }
+}
+
+/// Reads a scenario and a trace, and writes the story of the trace's ending, or says why it can't.
+pub(crate) fn explain<S: Source, K: Sink>(alloc: Global, source: &mut S, sink: &mut K) -> u8
+    ensures told { TellsBy explaining
+        (sourcing (S.left source.old) (S.left source.new) (S.faults source.old) (S.faults source.new))
+        (sinking (K.written sink.old) (K.written sink.new) (K.faults sink.old) (K.faults sink.new))
+        result }
+    ensures not_again { result ≡ 13 → EndsRefused K.refused K.faults sink.old sink.new }
+{
+    match read_text(alloc, source) {
+        Ok(input) => explain_input(alloc, &input, sink),
+        Err(refusal) => tell(sink, refusal),
+    }
+}

@@ -1,0 +1,7 @@
+-- What a prefix leaves.
+use Rattle.std.proofs.lemmas.Bool.{eq-eqb, eqb-true}
+use Rattle.std.proofs.lemmas.Slice.Eq.{strip_prefix_is}
+use Rattle.wdf_sum.proofs.digits.after.Goals as goal
+
+pub returns : goal.returns
+returns c = strip_prefix_is (λ a b. (eqb-true a b, eq-eqb a b)) c.args.text.now c.args.front.now c.strip_prefix.result c.strip_prefix.ensures.cases
