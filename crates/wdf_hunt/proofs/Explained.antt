@@ -1,5 +1,5 @@
 -- What is said of a trace that was judged.
-use Rattle.std.proofs.Common.{ℕ, ◌≡◌, ◌⊎◌, inl, inr, List, refl, ap, ◌∙◌}
+use Rattle.std.proofs.Common.{ℕ, ◌≡◌, ◌⊎◌, inl, inr, List, refl, sym, ap, ◌∙◌}
 use Rattle.wdf_base.specs.declared.plan.Plan.{Plan}
 use Rattle.wdf_base.specs.declared.event.Event.{Event}
 use Rattle.wdf_base.specs.declared.event.Ending.{Ending}
@@ -26,7 +26,7 @@ use Rattle.wdf_hunt.specs.Explained.{IsExplained, TellsExplained, TellsStory, ex
 pub story_told : (plan p : Plan) (trace : List ℕ) (e : Ending) (left : List Event) (k : Sinking) (answer : ℕ) → p ≡ plan → IsLeft plan agent_meaning trace (Accepted e) left
     → TellsStory (story p agent_meaning left) k answer → TellsExplained plan trace k answer
 story_told plan p trace e left k answer is (accepted, same) (text, status, inl (text_is, status_is), said) =
-    (text, status, inl (inl (e, accepted, text_is ∙ ap (λ q. story q agent_meaning left) is ∙ ap (λ es. story plan agent_meaning es) same, status_is)), said)
+    (text, status, inl (inl (e, accepted, text_is ∙ ap (λ q. story q agent_meaning left) is ∙ ap (λ es. story plan agent_meaning es) (sym same), status_is)), said)
 story_told plan p trace e left k answer is (accepted, same) (text, status, inr wants, said) = (text, status, inr wants, said)
 
 -- the line of a bad trace was said
