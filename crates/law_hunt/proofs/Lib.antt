@@ -1,2 +1,2 @@
-pub mod Kinds
-pub mod Tables
+pub mod OfKinds
+pub mod OfTables

@@ -2,9 +2,9 @@
 #![tactic(auto)]
 
 ghost use Rattle.std.specs.Prelude.{◌≡◌, ◌≢◌, ℕ, List};
-ghost use Rattle.wdf_base.specs.Meaning.{Meaning};
 ghost use Rattle.wdf_base.specs.declared.event.Event.{Event};
 ghost use Rattle.wdf_base.specs.declared.plan.Plan.{Plan};
+ghost use Rattle.wdf_dev.specs.Agents.{agent_meaning};
 ghost use Rattle.wdf_expect.specs.declared.rules.Expectation.{Expectation};
 ghost use Rattle.wdf_table.specs.declared.row.Row.{Row};
 ghost use Rattle.wdf_table.specs.Lines.{kind_status, table_status};
@@ -16,7 +16,7 @@ ghost use Rattle.law_hunt.specs.Statuses.{AreClean, SomeHas, run_status};
 /// The status that is read off a kind is that of the run: 1 where it breaks a rule, 0 where it ended as expected, and else that of
 /// its ending.
 pub fn kinds_have_the_status_of_the_run()
-    ensures { {A : Type 0} (es : List Expectation) (plan : Plan) (m : Meaning A) (run : List Event) → kind_status (kind_of es plan m run) ≡ run_status es plan m run }
+    ensures { (es : List Expectation) (plan : Plan) (run : List Event) → kind_status (kind_of es plan agent_meaning run) ≡ run_status es plan agent_meaning run }
 {}
 
 /// Where the status of a table is 0, each seed of its range has a run of the status 0.

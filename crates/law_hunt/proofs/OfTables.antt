@@ -12,7 +12,7 @@ use Rattle.wdf_table.proofs.Adding.{bit_no, count_first, counted_one, kind_is, o
 use Rattle.wdf_tries.specs.declared.tried.Case.{Case}
 use Rattle.wdf_tries.specs.Tries.{AreTries, IsTryOf}
 use Rattle.law_hunt.specs.Statuses.{AreClean, HasStatus, SomeHas}
-use Rattle.law_hunt.proofs.Kinds as kinds
+use Rattle.law_hunt.proofs.OfKinds as kinds
 
 -- ---- the worse of two statuses
 
