@@ -121,9 +121,10 @@ fn tell_files<R: Threads + Sync + Files + AllocGlobal, K: Sink>(
     worst
 }
 
-/// Tries each scenario of a folder over the seeds of a range, and writes a line for each: `ok`, or `not ok` with the reason. The
-/// status is 0 where each is as it should be, else 1; 12 where the folder can't be read, 13 where the output fails, and 15 where
-/// memory was refused.
+/// Tries each scenario of a folder over the seeds of a range, and writes a line for each: `ok`, or `not ok` with the reason, which
+/// may be that the file can't be read. The status is 0 where each is `ok`, else 1, also where there is none; 12 where the folder
+/// can't be read or memory for its names was refused, 13 where the output fails, and 15 where memory for the tries or for a line
+/// was refused.
 pub fn tell_suite<R: Threads + Sync + Files + AllocGlobal + Clone + Drop, K: Sink>(
     rt: &R,
     folder: &str,

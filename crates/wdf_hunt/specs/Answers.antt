@@ -20,7 +20,7 @@ use Rattle.wdf_hunt.specs.declared.words.Form.{Form}
 use Rattle.wdf_hunt.specs.declared.words.Form.TheVariants.{Seeds, Shrink, Sum, Explain}
 
 abbrev pub usage_line : List ℕ
-usage_line = codes "usage: kmdfhunt seeds FROM COUNT [jitter TICKS] | shrink N [jitter TICKS] | test FOLDER [FROM COUNT] | sum | explain\n"
+usage_line = codes "usage: kmdfhunt seeds FROM COUNT [jitter TICKS] [--no-progress] | shrink N [jitter TICKS] | test FOLDER [FROM COUNT] | sum | explain\n"
 
 -- the line of a comment that begins with `#!` and can't be read
 abbrev pub unread_line : ℕ → List ℕ

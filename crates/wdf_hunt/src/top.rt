@@ -22,7 +22,7 @@ use wdf_tries::Case;
 
 /// What is written for words of no form.
 const USAGE: &[u8] =
-    b"usage: kmdfhunt seeds FROM COUNT [jitter TICKS] | shrink N [jitter TICKS] | test FOLDER [FROM COUNT] | sum | explain\n";
+    b"usage: kmdfhunt seeds FROM COUNT [jitter TICKS] [--no-progress] | shrink N [jitter TICKS] | test FOLDER [FROM COUNT] | sum | explain\n";
 
 /// The status of words of no form.
 const USAGE_STATUS: u8 = 2;
@@ -101,7 +101,7 @@ fn shrink<S: Source, K: Sink>(
     }
 }
 
-/// Serves the words after the program's name, and answers the status to end with. It always returns.
+/// Serves the words after the program's name, and answers the status to end with. It returns where each thread that it joins does.
 ///
 /// `seeds FROM COUNT` reads a scenario, and runs it by each of COUNT seeds, from FROM on, as `kmdfsim seed N` does. It
 /// writes a line for each kind of ending that came, most frequent first: how many seeds, which of them has the run of the
