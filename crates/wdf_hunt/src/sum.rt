@@ -1,10 +1,9 @@
 //! The sum of tables.
-ghost use Rattle.std.specs.Prelude.{◌≡◌, ◌+◌, ◌<◌, ◌≤◌, ◌^◌, IfErr, IfOk, ℕ, List};
+ghost use Rattle.std.specs.Prelude.{◌≡◌, ◌+◌, ◌<◌, ◌≤◌, ◌^◌, ℕ, IfOk, List, length};
 ghost use Rattle.wdf_io.specs.Outside.{EndsRefused};
 ghost use Rattle.wdf_output.specs.Said.{sinking};
 ghost use Rattle.wdf_sum.specs.Sums.{IsNoSum, IsSumOf};
-ghost use Rattle.wdf_top.specs.Causes.{IsCause, all_of};
-ghost use Rattle.wdf_top.specs.Top.{IsRead, sourcing};
+ghost use Rattle.wdf_top.specs.Top.{sourcing};
 ghost use Rattle.wdf_hunt.specs.Sums.{IsSumText, TellsSum, TellsSumOf, sum_line, sum_word};
 
 use crate::read::read_text;
