@@ -1,5 +1,5 @@
 -- What the words of blocks and refusals say of a form they say of the form without its tick.
-use Rattle.std.proofs.Common.{ℕ, suc, zero, ◌≡◌, Bool, true, false, cond, not, List, Option, Some, None, refl, ap}
+use Rattle.std.proofs.Common.{ℕ, suc, zero, ◌≡◌, false, cond, not, Some, refl, ap}
 use Rattle.wdf_base.specs.declared.rank.Owner.{Owner}
 use Rattle.wdf_base.specs.declared.rank.Owner.TheVariants as owner
 use Rattle.wdf_base.specs.Same.{same_option, same_kind}

@@ -1,8 +1,7 @@
 -- Whether a line is refused is the same without ticks.
-use Rattle.std.proofs.Common.{◌≡◌, ℕ, ◌-◌, Bool, true, false, cond, not, ◌&&◌, ◌||◌, nat_lt, List, [], ◌∷◌, drop, map, take, Option, Some, None, option_map, refl, sym, ap, ◌∙◌}
+use Rattle.std.proofs.Common.{◌≡◌, ℕ, ◌-◌, Bool, false, cond, not, ◌&&◌, ◌||◌, nat_lt, List, [], ◌∷◌, drop, map, take, Option, Some, None, option_map, refl, sym, ap, ◌∙◌}
 use Rattle.std.specs.Prelude.{option_and_then}
 use Rattle.std.specs.List.{list_any}
-use Rattle.std.specs.Option.{option_or}
 use Rattle.wdf_base.specs.Callbacks.{row_of}
 use Rattle.wdf_base.specs.Resolved.{function_of, serial_level}
 use Rattle.wdf_base.specs.declared.call.Callback.TheVariants as callback
@@ -17,17 +16,17 @@ use Rattle.wdf_blocks.specs.declared.declaration.Declaration.{Declaration}
 use Rattle.wdf_blocks.specs.declared.declaration.Wanted.TheVariants as wanted
 use Rattle.wdf_blocks.specs.declared.placed.Placed.{Placed}
 use Rattle.wdf_blocks.specs.Attribute.{attribute_of}
-use Rattle.wdf_blocks.specs.Blocks.{form_at, given, has_given, number_at}
+use Rattle.wdf_blocks.specs.Blocks.{form_at, given, has_given}
 use Rattle.wdf_blocks.specs.Declarations.{declarations, is_parent_at, stands}
-use Rattle.wdf_blocks.specs.Forms.{assigned_name, is_app, is_class, is_device, is_post, is_register, is_statement, nodes_end}
+use Rattle.wdf_blocks.specs.Forms.{assigned_name}
 use Rattle.wdf_blocks.specs.Placed.{placed}
 use Rattle.wdf_blocks.specs.Variables.{variables_at}
 use Rattle.wdf_refusals.specs.declared.limit.Limit.{Limit}
 use Rattle.wdf_refusals.specs.declared.limit.Limit.TheVariants as limit
 use Rattle.wdf_refusals.specs.declared.limit.TheConstants.{LIMITS}
 use Rattle.wdf_refusals.specs.First.{first_refusal, first_some, refused, refused_at}
-use Rattle.wdf_refusals.specs.Limits.{exceeded, exceeds, is_one_too_many, over_objects, over_picks, over_variables}
-use Rattle.wdf_refusals.specs.Rows.{block_is, first_line, given_line, has_callbacks, home, incompatible_level, is_deferred_block, is_timer_block, is_working_block, no_parent, nodes_of, twice_assigned, twice_attribute, twice_declared, twice_given, twice_named, unknown_name, unknown_node, unknown_word, unlike_block, unlike_parent, wrong_callback}
+use Rattle.wdf_refusals.specs.Limits.{exceeded, exceeds, is_one_too_many, over_objects, over_variables}
+use Rattle.wdf_refusals.specs.Rows.{block_is, given_line, has_callbacks, home, incompatible_level, is_deferred_block, is_timer_block, is_working_block, no_parent, nodes_of, twice_assigned, twice_attribute, twice_declared, twice_given, twice_named, unknown_name, unknown_node, unknown_word, unlike_block, unlike_parent, wrong_callback}
 use Rattle.wdf_jitter.specs.Moved.{moved_scene}
 use Rattle.law_bare.proofs.Lists.{any_same, find_same}
 use Rattle.law_moved.proofs.Untimed.{by_form, scene_alike, untimed, untimed_scene}

@@ -15,14 +15,14 @@ use Rattle.wdf_blocks.specs.declared.declaration.Wanted.TheVariants as wanted
 use Rattle.wdf_blocks.specs.declared.placed.Counts.{Counts}
 use Rattle.wdf_blocks.specs.declared.placed.Placed.{Placed}
 use Rattle.wdf_blocks.specs.declared.placed.Stand.{Stand}
-use Rattle.wdf_blocks.specs.Blocks.{counts_for, depth_after, driver_line, effective_level, effective_scope, ends_block, form_at, given, given_from, given_level, given_scope, has_given, is_driver_line, level_in, number_at, scope_in}
+use Rattle.wdf_blocks.specs.Blocks.{counts_for, depth_after, driver_line, effective_level, ends_block, form_at, given, given_from, given_level, has_given, is_driver_line, level_in, number_at}
 use Rattle.wdf_blocks.specs.Declarations.{declarations, declared_by, declared_on, is_parent_at, is_wanted}
 use Rattle.wdf_blocks.specs.Forms.{assigned_name}
 use Rattle.wdf_blocks.specs.Placed.{counted, nothing, opened_by, outside, placed, placed_from, placed_line}
 use Rattle.wdf_blocks.specs.Variables.{assigned_from, variables, variables_at, variables_in, with_assigned}
 use Rattle.law_bare.proofs.Lists.{at_map, at_mapped, drop_map, gathered_same, position_map}
 use Rattle.law_moved.proofs.Untimed.{by_form, untimed, untimed_line, untimed_scene}
-use Rattle.law_moved.proofs.Forms.{assigned_name_alike, counted_alike, counts_alike, depth_alike, ends_alike, is_driver_alike, level_in_alike, opened_alike, scope_in_alike}
+use Rattle.law_moved.proofs.Forms.{assigned_name_alike, counted_alike, counts_alike, depth_alike, ends_alike, is_driver_alike, level_in_alike, opened_alike}
 
 -- a line of a scene where it is, without its tick
 abbrev pub unplaced : Placed → Placed

@@ -8,7 +8,6 @@ use Rattle.wdf_scene.specs.declared.line.SceneLine.{SceneLine}
 use Rattle.wdf_scene.specs.declared.line.SceneLine.TheVariants as line
 use Rattle.wdf_base.specs.declared.event.Ask.{Ask}
 use Rattle.wdf_scene.specs.declared.scene.Scene.{Scene}
-use Rattle.wdf_jitter.specs.declared.moved.TheConstants.{LAST_TICK}
 use Rattle.wdf_jitter.specs.Moved.{moved_tick, moved_form, moved_lines, moved_scene}
 
 -- a tick that a line may name as 0, and any other as it is
