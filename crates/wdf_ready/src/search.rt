@@ -266,21 +266,6 @@ fn searched_at<A: Agent>(
     Err(left)
 }
 
-/// How many events may come of all these groups.
-pub fn allowed_len<A: Agent>(plan: &IndexedPlan, parts: &Parts<A>, all: &[Group]) -> usize
-    requires agents { length parts.now.agents ≤ 2 ^ 16 }
-    requires few { length all.now < 2 ^ 20 }
-    requires settled { IsSettled plan.now parts.now }
-    ensures length { result ≡ length (search.events_of plan.now A.meaning parts.now all.now) }
-    ensures small { result < 2 ^ 60 }
-{
-    let mut count = 0;
-    for group in all {
-        count += offered_len(plan, parts, *group);
-    }
-    count
-}
-
 /// The k-th of the events that may come of all these groups; `None` exactly where there are fewer.
 pub fn allowed_at<A: Agent>(
     plan: &IndexedPlan,

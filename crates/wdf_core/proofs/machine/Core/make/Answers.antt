@@ -25,5 +25,5 @@ returns-clause-plan g c = c.begun.ensures.plan ∙ c.in_ok-plan.ensures
 pub returns-clause-journal : goal.returns-clause-journal
 returns-clause-journal g c = c.begun.ensures.journal
 
-pub begun-requires-clause-room : goal.begun-requires-clause-room
-begun-requires-clause-room g c = omega (arith, c.in_ok-counts.ensures.exact)
+pub begun-requires-clause-counts : goal.begun-requires-clause-counts
+begun-requires-clause-counts g c = c.in_ok-counts.ensures

@@ -2,7 +2,7 @@
 use Rattle.std.proofs.Common.{◌-◌, ◌≤◌, drop}
 use Rattle.wdf_ready.specs.Search.{events_of}
 use Rattle.wdf_ready.proofs.Passing.{Passed}
-use Rattle.wdf_ready.proofs.counted.counted_at.Given as goal
+use Rattle.wdf_ready.proofs.counts.KeptCounts.at.Given as goal
 
 abbrev pub invariant-loop-at : goal.invariant-loop-at
 invariant-loop-at g l = record {
