@@ -22,9 +22,9 @@ pub struct KeptCounts {
 }
 
 impl Model for KeptCounts {
-    ghost Value = { Counts };
-
     ghost use Rattle.wdf_ready.specs.Counts.{Counts};
+
+    ghost Value = { Counts };
 
     ghost view = { λ c. record { each = c.each.items; stale = c.stale } };
 }
