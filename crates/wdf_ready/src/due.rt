@@ -76,7 +76,7 @@ fn next_cancel<A: Agent>(
     None
 }
 
-/// The same for a callback of any rank. It asks each request.
+/// The same for a callback of any rank: it asks each place.
 fn next_of_all<A: Agent>(
     plan: &IndexedPlan,
     parts: &Parts<A>,
@@ -160,7 +160,7 @@ fn next_timer<A: Agent>(parts: &Parts<A>, from: usize, end: usize) -> Option<usi
     }
 }
 
-/// The same for a callback of any rank. It asks each place.
+/// The same for a callback of any rank: it asks each place.
 fn next_by_one<A: Agent>(
     parts: &Parts<A>,
     rank: Rank,
