@@ -8,9 +8,7 @@ ghost use Rattle.wdf_ready.specs.Leaving.{IsSettled, group_of};
 ghost use Rattle.wdf_ready.specs.Search as search;
 
 use crate::actor::is_by;
-use crate::candidates::{
-    completion_at, parks, places_in, stage_at, start_for, unparks,
-};
+use crate::candidates::{completion_at, parks, places_in, stage_at, start_for, unparks};
 use crate::direct::{
     cleanup_offered, completion_offered, completions_len, end_offered, own_len, post_offered,
 };

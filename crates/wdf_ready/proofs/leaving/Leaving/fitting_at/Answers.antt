@@ -6,5 +6,6 @@ use Rattle.wdf_ready.proofs.leaving.Leaving.fitting_at.Goals as goal
 pub returns-in-Work : goal.returns-in-Work
 returns-in-Work g c =
     let S = c.args.parts.now in
-    (rw c.work_items.ensures at c.nth.ensures.item)
-    ∙ ap (λ xs. slice_get xs c.args.k) ((rw c.work_items.ensures at c.nth.ensures.rising) (length S.tree.nodes) (none_beyond S c.requires.settled))
+    rw c.in-Work.is
+    ((rw c.work_items.ensures at c.nth.ensures.item)
+    ∙ ap (λ xs. slice_get xs c.args.k) ((rw c.work_items.ensures at c.nth.ensures.rising).rising (length S.tree.nodes) (none_beyond S c.requires.settled)))
