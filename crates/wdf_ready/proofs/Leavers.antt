@@ -305,7 +305,7 @@ listed f ys (x ∷ xs) =
     let one_more : length (ys ++ x ∷ []) ≡ length ys + 1 = length-append ys (x ∷ []) in
     let whole_list : (ys ++ x ∷ []) ++ xs ≡ ys ++ x ∷ xs = append_assoc ys (x ∷ []) xs in
     let rest = subst (λ n. filter_map (λ k. f (slice_get (ys ++ x ∷ xs) k)) (range_with_len n (length xs)) ≡ filter_map (λ o. f (Some o)) xs) one_more
-        (subst (λ zs. filter_map (λ k. f (slice_get zs k)) (range_with_len (length (ys ++ x ∷ [])) (length xs)) ≡ filter_map (λ o. f (Some o)) xs) whole_list (listed f (ys ++ x ∷ []) xs)) in
+    (subst (λ zs. filter_map (λ k. f (slice_get zs k)) (range_with_len (length (ys ++ x ∷ [])) (length xs)) ≡ filter_map (λ o. f (Some o)) xs) whole_list (listed f (ys ++ x ∷ []) xs)) in
     ap (λ o. cons_option (f o) (filter_map (λ k. f (slice_get (ys ++ x ∷ xs) k)) (range_with_len (length ys + 1) (length xs)))) (at_end ys x xs)
     ∙ ap (cons_option (f (Some x))) rest
 

@@ -3,7 +3,7 @@ ghost use Rattle.std.specs.Prelude.{◌≡◌, ◌+◌, ◌<◌, ◌≤◌, ◌^
 ghost use Rattle.wdf_ready.specs.Counts.{IsKept, Unknown, is_stale, stale_after};
 ghost use Rattle.wdf_ready.specs.Leaving.{IsSettled};
 ghost use Rattle.wdf_ready.specs.Search as search;
-ghost use Rattle.wdf_ready.specs.declared.stale.Stale.TheVariants as stale;
+ghost use Rattle.wdf_ready.specs.declared.stale.Stale.TheVariants as kinds;
 
 use crate::search::{offered_at, offered_len};
 use crate::stale::Stale;
@@ -47,7 +47,7 @@ impl KeptCounts {
 
     /// Nothing is known from here on.
     pub fn forget_all(&mut self)
-        ensures { self.new ≡ record self.old { stale = stale.Everything } }
+        ensures { self.new ≡ record self.old { stale = kinds.Everything } }
     {
         self.stale = Stale::Everything;
     }
@@ -179,7 +179,7 @@ fn count_each<A: Agent>(
     requires kept { IsKept plan.now A.meaning parts.now all.now (record { each = each.old.items; stale = stale }) }
     ensures length { result ≡ length (search.events_of plan.now A.meaning parts.now all.now) }
     ensures small { result < 2 ^ 60 }
-    ensures each { IsKept plan.now A.meaning parts.now all.now (record { each = each.new.items; stale = stale.Nothing }) }
+    ensures each { IsKept plan.now A.meaning parts.now all.now (record { each = each.new.items; stale = kinds.Nothing }) }
 {
     let mut sum = 0;
     for at in 0..all.len() {

@@ -76,7 +76,7 @@ fn next_cancel<A: Agent>(
     None
 }
 
-/// The same for a callback of any rank. It asks each request.
+/// The same for a callback of any rank: it asks each place.
 fn next_of_all<A: Agent>(
     plan: &IndexedPlan,
     parts: &Parts<A>,
@@ -155,18 +155,19 @@ fn next_timer<A: Agent>(parts: &Parts<A>, from: usize, end: usize) -> Option<usi
         return None;
     }
     match parts.timers().next_due(from as u32, parts.now()) {
-        Some(place) => { if (place as usize) < end { Some(place as usize) } else { None } }
+        Some(place) => {
+            if (place as usize) < end {
+                Some(place as usize)
+            } else {
+                None
+            }
+        }
         None => None,
     }
 }
 
-/// The same for a callback of any rank. It asks each place.
-fn next_by_one<A: Agent>(
-    parts: &Parts<A>,
-    rank: Rank,
-    from: usize,
-    end: usize,
-) -> Option<usize>
+/// The same for a callback of any rank: it asks each place.
+fn next_by_one<A: Agent>(parts: &Parts<A>, rank: Rank, from: usize, end: usize) -> Option<usize>
     requires small { end ≤ 2 ^ 32 }
     ensures { MatchOption result (NoneFrom (idle.can_start_at parts.now rank) from end)
         (λ place. IsNext (idle.can_start_at parts.now rank) from end place) }

@@ -110,7 +110,9 @@ impl Leaving {
             Leaving::Cleanup => !is_declared_somewhere(plan, Callback::EvtCleanupCallback),
             Leaving::Destroy => !is_declared_somewhere(plan, Callback::EvtDestroyCallback),
             Leaving::Work { cpu } => {
-                is_cpu(plan, Cpu(cpu)) && parts.cpus().is_empty(Cpu(cpu)) && is_unlocked(plan, parts)
+                is_cpu(plan, Cpu(cpu))
+                    && parts.cpus().is_empty(Cpu(cpu))
+                    && is_unlocked(plan, parts)
             }
         }
     }

@@ -8,9 +8,7 @@ ghost use Rattle.wdf_ready.specs.Leaving.{IsSettled, group_of};
 ghost use Rattle.wdf_ready.specs.Search as search;
 
 use crate::actor::is_by;
-use crate::candidates::{
-    completion_at, parks, places_in, stage_at, start_for, unparks,
-};
+use crate::candidates::{completion_at, parks, places_in, stage_at, start_for, unparks};
 use crate::direct::{
     cleanup_offered, completion_offered, completions_len, end_offered, own_len, post_offered,
 };
@@ -66,8 +64,9 @@ fn offered<A: Agent>(
     }
 }
 
-/// The first place from one on at which a callback of a rank can start on a processor. It is found by a look at whose
-/// turn to be cleaned up has come, at what is cleaned, and else at one part's say.
+/// The first place from one on at which a callback of a rank can start on a processor. For cleanup callbacks a set says
+/// whose turn it is, for destroy callbacks a set says what is cleaned, for timers a tick for each 64 ids says where none is
+/// due; for other ranks each place is asked of one part.
 fn next_start<A: Agent>(
     plan: &IndexedPlan,
     parts: &Parts<A>,
@@ -196,7 +195,8 @@ fn searched_len<A: Agent>(plan: &IndexedPlan, parts: &Parts<A>, group: Group) ->
     count
 }
 
-/// The k-th of the cleanups or destructions that may come, or of the starts of work items on a processor, or how many places of a list are left after them.
+/// The k-th of the cleanups or destructions that may come, or of the starts of work items on a processor, or how many
+/// places of a list are left after them.
 fn leaving_at<A: Agent>(
     plan: &IndexedPlan,
     parts: &Parts<A>,

@@ -11,7 +11,7 @@ use wdf_model::Group;
 use wdf_parts::Parts;
 use wdf_plan_index::IndexedPlan;
 
-/// Who does an event.
+/// Whose events they are.
 #[derive(Clone, Copy, Debug)]
 pub enum Side {
     /// A processor's.
