@@ -1,6 +1,7 @@
 -- Counts that are kept: those of the groups up to one are right, and one more.
 use Rattle.std.proofs.Common.{Bool, true, false, ◌≡◌, ℕ, ◌+◌, ◌<◌, ◌≤◌, ◌==◌, ◌^◌, ◌⊎◌, inl, inr, List, length, length-set, get_or, get_or-set_same, get_or-set_other, slice_set, slice_get, Some, refl, sym, ap, ◌∙◌, subst, arith}
 use Rattle.std.proofs.lemmas.Bool.{eqb-false, eqb-true}
+use Rattle.std.proofs.lemmas.List.{get_or_default}
 use Rattle.std.proofs.lemmas.Option.{slice_get_within}
 use Rattle.wdf_base.specs.Meaning.{Meaning}
 use Rattle.wdf_base.specs.declared.plan.Plan.{Plan}
@@ -36,6 +37,14 @@ module _ {A : Type 0} (plan : Plan) (m : Meaning A) (S : State A) (all : List Gr
     small = k.small;
     known = λ i g is known. let within = slice_get_within all i g is in k.right i g is (inl (omega arith));
   }
+
+  -- a count that is known, as it is read
+  pub read_right : (upto at : ℕ) (g : Group) (n : ℕ) → IsCountedTo plan m S all s each upto → slice_get all at ≡ Some g → n ≡ get_or each at n → is_stale s g ≡ false → n ≡ offered_len plan m S g
+  read_right upto at g n k is read known =
+      let within = slice_get_within all at g is in
+      let filled = k.filled in
+      let inside : at < length each = omega arith in
+      read ∙ get_or_default each at n 0 inside ∙ k.right at g is (inr known)
 
   module _ (at n : ℕ) (g : Group) (is : slice_get all at ≡ Some g) (counts : n ≡ offered_len plan m S g) (low : n ≤ 2 ^ 32) (k : IsCountedTo plan m S all s each at) where
     inside : at < length each
