@@ -28,7 +28,7 @@ module _ {A : Type 0} (plan : Plan) (m : Meaning A) (S : State A) (all : List Gr
   none_counted k = record {
     filled = k.filled;
     small = k.small;
-    right = λ i g is h. elim h [ | inl below ↦ absurd (omega arith) | inr known ↦ k.known i g is known ];
+    right = λ i g is h. elim h [ inl below ↦ absurd (omega arith) | inr known ↦ k.known i g is known ];
   }
 
   pub all_counted : (at : ℕ) → length all ≤ at → IsCountedTo plan m S all s each at → IsKept plan m S all (record { each = each; stale = stale.Nothing })

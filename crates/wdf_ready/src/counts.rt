@@ -61,12 +61,7 @@ impl KeptCounts {
 
     /// How many events may come of all these groups. Of a group that may have changed they are counted anew, and the count
     /// is kept.
-    pub fn count<A: Agent>(
-        &mut self,
-        plan: &IndexedPlan,
-        parts: &Parts<A>,
-        all: &[Group],
-    ) -> usize
+    pub fn count<A: Agent>(&mut self, plan: &IndexedPlan, parts: &Parts<A>, all: &[Group]) -> usize
         requires agents { length parts.now.agents ≤ 2 ^ 16 }
         requires settled { IsSettled plan.now parts.now }
         requires few { length all.now < 2 ^ 20 }
