@@ -102,10 +102,11 @@ fn write_waits<A: Agent, K: Sink>(core: &Core<A>, sink: &mut K) -> Result<(), Fa
     ensures never_falls { K.faults sink.old ≤ K.faults sink.new }
     ensures not_again { OnErr result (EndsRefused K.refused K.faults sink.old sink.new) }
 {
-    for k in 0..core.wait_len() {
-        let wait = core.wait_at(k);
+    let mut place = core.first_wait();
+    for _k in 0..core.wait_len() {
+        let (wait, next) = core.next_wait(place);
         match write_wait(sink, core.plan(), &wait) {
-            Ok(()) => {}
+            Ok(()) => place = next,
             Err(failed) => return Err(failed),
         }
     }

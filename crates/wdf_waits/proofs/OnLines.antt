@@ -66,7 +66,7 @@ module _ {A : Type 0} (plan : Plan) (m : Meaning A) (S : State A) (s : Section) 
 abbrev pub IN_ORDER : List Section
 IN_ORDER = section.Frames ∷ section.Requests ∷ section.Devices ∷ section.Objects ∷ section.Work ∷ section.Asking ∷ []
 
-six : (a b c d e f : List WaitLine) → a ++ b ++ c ++ d ++ e ++ f ≡ a ++ (b ++ (c ++ (d ++ (e ++ (f ++ [])))))
+pub six : (a b c d e f : List WaitLine) → a ++ b ++ c ++ d ++ e ++ f ≡ a ++ (b ++ (c ++ (d ++ (e ++ (f ++ [])))))
 six a b c d e f = simp (append_assoc, append-nil)
 
 six_lengths : (a b c d e f : List WaitLine) → length (a ++ b ++ c ++ d ++ e ++ f) ≡ length a + length b + length c + length d + length e + length f
