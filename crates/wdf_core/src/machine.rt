@@ -7,7 +7,6 @@ ghost use Rattle.wdf_model.specs.State.{opening_agents};
 ghost use Rattle.wdf_model.specs.rules.Ready.{IsRunOf, allowed, ending_of, ending_without_fault, last_fault, ready, state_after, waits_for_time};
 ghost use Rattle.wdf_model.specs.rules.Waits.{wait_list};
 ghost use Rattle.wdf_core.specs.Course.{IsUnderWay};
-ghost use Rattle.wdf_core.specs.Walks.{waits_from};
 ghost use Rattle.wdf_core.specs.Going.{goes_on, is_tick, tick_if};
 ghost use Rattle.law_machine_places.specs.Placed.{IsAmong};
 ghost use Rattle.wdf_ready.specs.Actors.{is_by as is_step_of};
@@ -26,7 +25,7 @@ use wdf_ready::{
 };
 use wdf_same::same_event;
 use wdf_steps::step;
-use wdf_waits::{WaitPlace, first_wait, next_wait, wait_line_at, wait_lines_len};
+use wdf_waits::{wait_line_at, wait_lines_len};
 
 /// The state of no events.
 fn opening_parts<A: Agent>(
@@ -50,7 +49,7 @@ fn is_tick(event: &Event) -> bool
 
 /// The machine of one run: its plan, the events so far, and what may follow them.
 ///
-/// Contracts see the plan and the events. No call but [`Core::make`] takes memory.
+/// Contracts see the plan and the events. No call but [`Core::make`] and [`Core::wait_list`] takes memory.
 pub struct Core<A: Agent> {
     plan: IndexedPlan,
     parts: Parts<A>,
@@ -587,23 +586,6 @@ impl<A: Agent> Core<A> {
             Ending::Stuck => wait_lines_len(&self.plan, &self.parts),
             _ => 0,
         }
-    }
-
-    /// The front of the wait list.
-    pub fn first_wait(&self) -> WaitPlace
-        ensures { waits_from self.now.plan A.meaning self.now.journal result ≡ wait_list self.now.plan A.meaning self.now.journal }
-    {
-        let _ = &self.plan;
-        first_wait()
-    }
-
-    /// The next line of the wait list from a place on, where there is one, and the place after it. A walk looks at each
-    /// thing once.
-    pub fn next_wait(&self, place: WaitPlace) -> (WaitLine, WaitPlace)
-        requires { 0 < length (waits_from self.now.plan A.meaning self.now.journal place) }
-        ensures { waits_from self.now.plan A.meaning self.now.journal place ≡ result.0 ∷ waits_from self.now.plan A.meaning self.now.journal result.1 }
-    {
-        next_wait(&self.plan, &self.parts, place).unwrap()
     }
 
     /// The k-th line of the wait list: who waits, and why.

@@ -1,14 +1,18 @@
-//! The statuses that a call of a program ends with, by what they mean.
+//! The statuses of the programs, by what they mean.
+//!
+//! # Choices
+//!
+//! - **Why a crate of its own?** A table of tries and an answer of the static check have a status too, and both stand on little.
+//! - **Why do contracts have the numbers?** They are what a caller of the program sees, and a reader compares them with the table
+//!   of statuses in the guide. So a number that is changed here alone is refused where it is written.
 #![tactic(auto)]
 
-ghost use Rattle.std.specs.Prelude.{◌≡◌};
-
-/// How a call of a program ends. Its number, by `as u8`, is the status.
+/// How a call ends. Its number is the status: `exit as u8`.
 #[derive(Clone, Copy)]
 pub enum Exit {
-    /// All is in order: the run finished, the text or the trace was accepted, what was asked for was written.
+    /// The run finished, or all was in order.
     Fine = 0,
-    /// A run breaks a rule.
+    /// A run broke a rule, or a file isn't as it should be.
     Broken = 1,
     /// The words are no form.
     Usage = 2,
@@ -18,7 +22,7 @@ pub enum Exit {
     Stuck = 4,
     /// The run came to its limit of events.
     Limit = 5,
-    /// A line of the trace, or of the tables, is bad.
+    /// A trace or a table has a bad line.
     BadLine = 6,
     /// The static check found something.
     Findings = 7,
@@ -26,7 +30,7 @@ pub enum Exit {
     NoScene = 10,
     /// The scenario has no plan.
     NoPlan = 11,
-    /// A read of the input failed.
+    /// A read failed.
     ReadFault = 12,
     /// A write failed.
     WriteFault = 13,
@@ -34,30 +38,4 @@ pub enum Exit {
     TooLarge = 14,
     /// There is no memory.
     NoMemory = 15,
-}
-
-fn two() -> u8
-    ensures { result ≡ 2 }
-{
-    Exit::Usage as u8
-}
-
-const X: u8 = Exit::WriteFault as u8;
-
-fn thirteen() -> u8
-    ensures { result ≡ 13 }
-{
-    X
-}
-
-fn say(text: u8, status: u8) -> u8
-    ensures { result ≡ status }
-{
-    status
-}
-
-fn fourteen() -> u8
-    ensures { result ≡ 14 }
-{
-    say(3, Exit::TooLarge as u8)
 }
