@@ -24,6 +24,7 @@
 mod refused;
 mod replaying;
 mod step;
+mod told;
 mod verdict;
 
 pub use refused::refused_line;
