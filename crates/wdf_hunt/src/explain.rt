@@ -50,7 +50,11 @@ fn tell_trace<K: Sink>(alloc: Global, core: &mut Core<AnyAgent>, trace: &[u8], s
 {
     match replay(core, trace) {
         Verdict::Accepted(_) => tell_ending(alloc, core, sink),
-        Verdict::RefusedAt { line, why } => say(sink, refused_line(line, why).bytes(), Exit::BadLine as u8),
+        Verdict::RefusedAt { line, why } => say(
+            sink,
+            refused_line(line, why).bytes(),
+            Exit::BadLine as u8,
+        ),
     }
 }
 

@@ -87,7 +87,11 @@ fn tell_bad<K: Sink>(bad: Bad, sink: &mut K) -> u8
 {
     match bad {
         Bad::NoMemory => tell(sink, Refusal::NoMemory),
-        Bad::AtLine { line, why } => say(sink, refused_line(line, why).bytes(), Exit::BadLine as u8),
+        Bad::AtLine { line, why } => say(
+            sink,
+            refused_line(line, why).bytes(),
+            Exit::BadLine as u8,
+        ),
     }
 }
 

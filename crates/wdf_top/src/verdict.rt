@@ -41,8 +41,16 @@ fn say_verdict<K: Sink>(events: usize, verdict: Verdict, sink: &mut K) -> u8
     ensures not_again { result ≡ 13 → EndsRefused K.refused K.faults sink.old sink.new }
 {
     match verdict {
-        Verdict::Accepted(ending) => say(sink, accepted_line(events, ending).bytes(), Exit::Fine as u8),
-        Verdict::RefusedAt { line, why } => say(sink, refused_line(line, why).bytes(), Exit::BadLine as u8),
+        Verdict::Accepted(ending) => say(
+            sink,
+            accepted_line(events, ending).bytes(),
+            Exit::Fine as u8,
+        ),
+        Verdict::RefusedAt { line, why } => say(
+            sink,
+            refused_line(line, why).bytes(),
+            Exit::BadLine as u8,
+        ),
     }
 }
 

@@ -25,6 +25,10 @@ pub(crate) fn tell_bad<K: Sink>(sink: &mut K, bad: Bad) -> u8
 {
     match bad {
         Bad::Unread(refusal) => tell(sink, refusal),
-        Bad::BadTrace { line, why } => say(sink, refused_line(line, why).bytes(), Exit::BadLine as u8),
+        Bad::BadTrace { line, why } => say(
+            sink,
+            refused_line(line, why).bytes(),
+            Exit::BadLine as u8,
+        ),
     }
 }
