@@ -15,7 +15,7 @@ ghost use Rattle.wdf_ready.specs.Sides.{is_of as is_event_of};
 use std::alloc::Global;
 use std::marker::Model;
 use std::mem;
-use wdf_base::{Actor, Agent, Ending, Event, Fault, Memory, Plan, WaitLine};
+use wdf_base::{Actor, Agent, Ending, Event, Fault, Memory, Plan};
 use wdf_model::Group;
 use wdf_parts::Parts;
 use wdf_plan_index::IndexedPlan;
@@ -25,7 +25,7 @@ use wdf_ready::{
 };
 use wdf_same::same_event;
 use wdf_steps::step;
-use wdf_waits::{wait_line_at, wait_lines_len};
+use wdf_waits::wait_lines_len;
 
 /// The state of no events.
 fn opening_parts<A: Agent>(
@@ -586,13 +586,5 @@ impl<A: Agent> Core<A> {
             Ending::Stuck => wait_lines_len(&self.plan, &self.parts),
             _ => 0,
         }
-    }
-
-    /// The k-th line of the wait list: who waits, and why.
-    pub fn wait_at(&self, k: usize) -> WaitLine
-        requires { k < length (wait_list self.now.plan A.meaning self.now.journal) }
-        ensures { slice_get (wait_list self.now.plan A.meaning self.now.journal) k ≡ Some result }
-    {
-        wait_line_at(&self.plan, &self.parts, k)
     }
 }
