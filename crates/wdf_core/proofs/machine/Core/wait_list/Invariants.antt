@@ -6,6 +6,6 @@ use Rattle.wdf_core.proofs.machine.Core.wait_list.Given as goal
 
 abbrev pub invariant-loop-line : goal.invariant-loop-line
 invariant-loop-line g l = record {
-  came : l.waits.items ≡ take l.line (wait_list l.self.plan g.A.Agent.meaning l.self.journal);
-  left : waits_from l.self.plan g.A.Agent.meaning l.self.journal l.place ≡ drop l.line (wait_list l.self.plan g.A.Agent.meaning l.self.journal);
+  came : l.waits.items ≡ take l._line (wait_list l.self.plan g.A.Agent.meaning l.self.journal);
+  left : waits_from l.self.plan g.A.Agent.meaning l.self.journal l.place ≡ drop l._line (wait_list l.self.plan g.A.Agent.meaning l.self.journal);
 }
