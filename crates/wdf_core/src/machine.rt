@@ -17,7 +17,7 @@ ghost use Rattle.wdf_ready.specs.Sides.{is_of as is_event_of};
 use std::alloc::Global;
 use std::marker::Model;
 use std::mem;
-use wdf_base::{Actor, Agent, Ending, Event, Fault, Memory, Plan, WaitLine};
+use wdf_base::{Actor, Agent, Ending, Event, Fault, Memory, Plan};
 use wdf_model::Group;
 use wdf_parts::Parts;
 use wdf_plan_index::IndexedPlan;
@@ -27,7 +27,7 @@ use wdf_ready::{
 };
 use wdf_same::same_event;
 use wdf_steps::step;
-use wdf_waits::{WaitPlace, first_wait, next_wait, wait_line_at, wait_lines_len};
+use wdf_waits::wait_lines_len;
 
 /// The state before the first event.
 fn opening_parts<A: Agent>(
@@ -59,7 +59,7 @@ fn place_of(pick: u64, count: usize) -> usize
 
 /// The machine of one run: its plan, the events so far, and what may follow them.
 ///
-/// Contracts see the plan and the events. No call but [`Core::make`] takes memory.
+/// Contracts see the plan and the events. No call but [`Core::make`] and [`Core::wait_list`] takes memory.
 pub struct Core<A: Agent> {
     plan: IndexedPlan,
     parts: Parts<A>,
@@ -592,30 +592,5 @@ impl<A: Agent> Core<A> {
             Ending::Stuck => wait_lines_len(&self.plan, &self.parts),
             _ => 0,
         }
-    }
-
-    /// The front of the wait list.
-    pub fn first_wait(&self) -> WaitPlace
-        ensures { waits_from self.now.plan A.meaning self.now.journal result ≡ wait_list self.now.plan A.meaning self.now.journal }
-    {
-        let _ = &self.plan;
-        first_wait()
-    }
-
-    /// The next line of the wait list from a place on, where there is one, and the place after it. A walk looks at each
-    /// thing once.
-    pub fn next_wait(&self, place: WaitPlace) -> (WaitLine, WaitPlace)
-        requires { 0 < length (waits_from self.now.plan A.meaning self.now.journal place) }
-        ensures { waits_from self.now.plan A.meaning self.now.journal place ≡ result.0 ∷ waits_from self.now.plan A.meaning self.now.journal result.1 }
-    {
-        next_wait(&self.plan, &self.parts, place).unwrap()
-    }
-
-    /// The k-th line of the wait list: who waits, and why.
-    pub fn wait_at(&self, k: usize) -> WaitLine
-        requires { k < length (wait_list self.now.plan A.meaning self.now.journal) }
-        ensures { slice_get (wait_list self.now.plan A.meaning self.now.journal) k ≡ Some result }
-    {
-        wait_line_at(&self.plan, &self.parts, k)
     }
 }

@@ -32,5 +32,5 @@ mod requests;
 mod section;
 mod walk;
 
-pub use lines::{wait_line_at, wait_lines_len};
+pub use lines::wait_lines_len;
 pub use walk::{WaitPlace, first_wait, next_wait};
