@@ -1,6 +1,6 @@
 //! A generated scenario by the words of its number: no statement that touches its own frame alone makes anyone ask an agent.
 use crate::asked::{AskedAgent, generated_opening};
-use rand_core::{RngCore, SeedableRng};
+use rand_core::{Rng, SeedableRng};
 use rand_xoshiro::SplitMix64;
 use std::sync::atomic::{AtomicU64, Ordering};
 use std::test::Fail;
