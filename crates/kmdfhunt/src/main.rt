@@ -21,11 +21,9 @@ use std::rt::Files;
 use std::thread::Threads;
 use std::{env, io};
 use suite::tell_suite;
+use wdf_exit::Exit;
 use wdf_hunt::{Progress, hunt, suite_of};
 use wdf_io::{ReadSource, Sink, Source, WriteSink};
-
-/// The status of a program that has no memory for its words.
-const NO_MEMORY: u8 = 15;
 
 /// The arguments after the first, which is the program's name. Where the system can't give them, there are none.
 fn words_of(alloc: Global, arguments: io::Result<Args>) -> Result<Vec<String>, AllocError> {
@@ -72,7 +70,7 @@ fn main(rt: HostRuntime) -> ExitCode {
             let mut line = Line::new(&rt, !is_quiet && rt.stderr().is_terminal());
             serve(&rt, words.as_slice(), &mut source, &mut sink, &mut line)
         }
-        Err(_) => NO_MEMORY,
+        Err(_) => Exit::NoMemory as u8,
     };
     ExitCode::from(status)
 }

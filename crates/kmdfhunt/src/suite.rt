@@ -6,16 +6,11 @@ use std::rt::Files;
 use std::thread::Threads;
 use std::{fs, io};
 use wdf_base::Memory;
+use wdf_exit::Exit;
 use wdf_hunt::{Range, suite_line, unread_file_line};
 use wdf_io::Sink;
 use wdf_output::{Refusal, say, tell};
 use wdf_writing::Text;
-
-/// The status where each file is as it should be.
-const GOOD: u8 = 0;
-
-/// The status where a file isn't as it should be, or there is none.
-const BAD: u8 = 1;
 
 /// What the names of scenarios end in.
 const ENDING: &str = ".kmdf";
@@ -62,7 +57,10 @@ fn file_line<R: Threads + Sync + Files + AllocGlobal>(
             range.from,
             range.count,
         ),
-        Err(_) => Ok((unread_file_line(rt.alloc(), number, name.as_bytes())?, BAD)),
+        Err(_) => Ok((
+            unread_file_line(rt.alloc(), number, name.as_bytes())?,
+            Exit::Broken as u8,
+        )),
     }
 }
 
@@ -92,10 +90,19 @@ fn plan_line(alloc: Global, count: usize) -> Result<Text, Memory> {
     Ok(line)
 }
 
-/// Writes the first line of a suite of so many files. The status is good where there are some.
+/// The status of that line: a suite without files isn't as it should be.
+fn plan_status(count: usize) -> u8 {
+    if count == 0 {
+        Exit::Broken as u8
+    } else {
+        Exit::Fine as u8
+    }
+}
+
+/// Writes the first line of a suite of so many files.
 fn tell_plan<K: Sink>(alloc: Global, count: usize, sink: &mut K) -> u8 {
     match plan_line(alloc, count) {
-        Ok(line) => say(sink, line.bytes(), if count == 0 { BAD } else { GOOD }),
+        Ok(line) => say(sink, line.bytes(), plan_status(count)),
         Err(memory) => tell(sink, Refusal::from(memory)),
     }
 }
@@ -112,7 +119,7 @@ fn tell_files<R: Threads + Sync + Files + AllocGlobal, K: Sink>(
 {
     let mut worst = tell_plan(rt.alloc(), names.len(), sink);
     for (k, name) in names.iter().enumerate() {
-        if worst > BAD {
+        if worst > Exit::Broken as u8 {
             return worst;
         }
         let number = (k as u64).saturating_add(1);

@@ -6,11 +6,9 @@ use std::alloc::{AllocError, Global};
 use std::env::Args;
 use std::process::ExitCode;
 use std::{env, io};
+use wdf_exit::Exit;
 use wdf_io::{ReadSource, WriteSink};
 use wdf_view::view;
-
-/// The status of a program that has no memory for its words.
-const NO_MEMORY: u8 = 15;
 
 /// The arguments after the first, which is the program's name. Where the system can't give them, there are none.
 fn words_of(alloc: Global, arguments: io::Result<Args>) -> Result<Vec<String>, AllocError> {
@@ -27,7 +25,7 @@ fn main(rt: HostRuntime) -> ExitCode {
     let mut sink = WriteSink::new(rt.stdout());
     let status = match words_of(rt.alloc(), env::args(&rt)) {
         Ok(words) => view(rt.alloc(), &words, &mut source, &mut sink),
-        Err(_) => NO_MEMORY,
+        Err(_) => Exit::NoMemory as u8,
     };
     ExitCode::from(status)
 }

@@ -34,7 +34,7 @@ filter-flat_map test make kept each [] = refl
 filter-flat_map test make kept each (x ∷ xs) = rw (filter-append test (make x) (flat_map make xs), each x, filter-flat_map test make kept each xs) refl
 
 -- what may come of a group is what its places offer
-group_offers : {A : Type 0} (plan : Plan) (m : Meaning A) (S : State A) (group : Group) → filter (may plan m S) (candidates_in plan m S group) ≡ offered_from plan m S group 0
+pub group_offers : {A : Type 0} (plan : Plan) (m : Meaning A) (S : State A) (group : Group) → filter (may plan m S) (candidates_in plan m S group) ≡ offered_from plan m S group 0
 group_offers plan m S group =
     let e : places_in plan S group - 0 ≡ places_in plan S group = omega arith in
     rw e (filter-filter_map (may plan m S) (candidate plan m S group) (range_with_len 0 (places_in plan S group)))

@@ -399,14 +399,6 @@ module _ {A : Type 0} (m : Meaning A) (plan : Plan) (journal : List Event) (S : 
   unfolding wait_list
   no_lines h = none_by (ending_of plan m journal) (wait_lines plan m (state_after plan m journal)) h
 
-  stuck_by : (e : Ending) (ls : List WaitLine) (k : ℕ) → k < length (if_stuck e ls) → ending.Stuck ≡ e
-  stuck_by ending.Stuck ls k h = refl
-  stuck_by _ ls k h = absurd (omega arith)
-
-  pub stuck_where : (k : ℕ) → k < length (wait_list plan m journal) → ending.Stuck ≡ ending_of plan m journal
-  unfolding wait_list
-  stuck_where k h = stuck_by (ending_of plan m journal) (wait_lines plan m (state_after plan m journal)) k h
-
 -- ---- whether there is a first
 
 pub any_first : (xs : List Event) → is_some (slice_get xs 0) ≡ nat_lt 0 (length xs)

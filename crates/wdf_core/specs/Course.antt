@@ -8,6 +8,7 @@ use Rattle.wdf_model.specs.declared.enums.Group.{Group}
 use Rattle.wdf_model.specs.State.{State}
 use Rattle.wdf_model.specs.rules.Groups.{groups}
 use Rattle.wdf_model.specs.rules.Ready.{IsRunOf, state_after}
+use Rattle.wdf_ready.specs.Counts.{Counts, IsKept}
 use Rattle.wdf_ready.specs.Search.{has_places}
 
 pub record Course : Type 0 where
@@ -24,7 +25,7 @@ pub record IsUnderWay {A : Type 0} (m : Meaning A) (plan : Plan) (journal : List
   pub groups : all ≡ filter (has_places plan) (groups plan)
   pub room : plan.limit ≤ space
 
--- All that a core keeps: this, and room for a count for each group.
-pub record IsSound {A : Type 0} (m : Meaning A) (plan : Plan) (journal : List Event) (S : State A) (all : List Group) (space spare : ℕ) : Type 0 where
+-- All that a core keeps: this, and counts that are right where they are known.
+pub record IsSound {A : Type 0} (m : Meaning A) (plan : Plan) (journal : List Event) (S : State A) (all : List Group) (space : ℕ) (c : Counts) : Type 0 where
   pub way : IsUnderWay m plan journal S all space
-  pub counts : length all ≤ spare
+  pub counts : IsKept plan m S all c

@@ -2,5 +2,7 @@
 #![tactic(auto)]
 
 mod machine;
+mod waits;
 
 pub use machine::Core;
+pub use wdf_waits::WaitPlace;

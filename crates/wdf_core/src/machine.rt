@@ -10,24 +10,25 @@ ghost use Rattle.wdf_core.specs.Course.{IsUnderWay};
 ghost use Rattle.wdf_core.specs.Going.{goes_on, is_tick, tick_if};
 ghost use Rattle.law_machine_places.specs.Placed.{IsAmong};
 ghost use Rattle.wdf_ready.specs.Actors.{is_by as is_step_of};
+ghost use Rattle.wdf_ready.specs.Counts.{Unknown};
 ghost use Rattle.wdf_ready.specs.Sides.{is_of as is_event_of};
 
 use std::alloc::Global;
 use std::marker::Model;
 use std::mem;
-use wdf_base::{Actor, Agent, Ending, Event, Fault, Memory, Plan, WaitLine};
+use wdf_base::{Actor, Agent, Ending, Event, Fault, Memory, Plan};
 use wdf_model::Group;
 use wdf_parts::Parts;
 use wdf_plan_index::IndexedPlan;
 use wdf_ready::{
-    Side, allowed_at, allowed_len, first_by, first_of, groups_of, is_allowed, is_by, is_of,
-    is_open, picked, waits_for_time,
+    KeptCounts, Side, allowed_at, first_by, first_of, groups_of, is_allowed, is_by, is_of, is_open,
+    waits_for_time,
 };
 use wdf_same::same_event;
 use wdf_steps::step;
-use wdf_waits::{wait_line_at, wait_lines_len};
+use wdf_waits::wait_lines_len;
 
-/// The state of no events.
+/// The state before the first event.
 fn opening_parts<A: Agent>(
     alloc: Global,
     plan: &IndexedPlan,
@@ -47,17 +48,25 @@ fn is_tick(event: &Event) -> bool
     matches!(event, Event::Tick { .. })
 }
 
+/// The place that a pick names among so many events.
+fn place_of(pick: u64, count: usize) -> usize
+    requires { 0 < count }
+    ensures { result ≡ pick % count }
+{
+    (pick % count as u64) as usize
+}
+
 /// The machine of one run: its plan, the events so far, and what may follow them.
 ///
-/// Contracts see the plan and the events. No call but [`Core::make`] takes memory.
+/// Contracts see the plan and the events. No call but [`Core::make`] and [`Core::wait_list`] takes memory.
 pub struct Core<A: Agent> {
     plan: IndexedPlan,
     parts: Parts<A>,
     /// The groups of candidates that can have places, in their order.
     groups: Vec<Group>,
     journal: Vec<Event>,
-    /// Room for how many events may come of each group, while one is picked.
-    counts: Vec<usize>,
+    /// How many events may come of each group, as far as that was counted and can't have changed.
+    counts: KeptCounts,
 }
 
 impl<A: Agent> Drop for Core<A> {
@@ -68,10 +77,11 @@ impl<A: Agent> Drop for Core<A> {
             parts,
             groups: _,
             journal: _,
-            counts: _,
+            counts,
         } = self;
         mem::drop(plan);
         mem::drop(parts);
+        mem::drop(counts);
     }
 }
 
@@ -83,7 +93,7 @@ impl<A: Agent> Model for Core<A> {
 
     ghost view = { λ c. record { plan = c.plan; journal = c.journal.items } };
 
-    ghost invariant = { λ c. IsSound A.meaning c.plan c.journal.items c.parts c.groups.items (vec_capacity c.journal) (vec_capacity c.counts) };
+    ghost invariant = { λ c. IsSound A.meaning c.plan c.journal.items c.parts c.groups.items (vec_capacity c.journal) c.counts };
 }
 
 impl<A: Agent> Core<A> {
@@ -101,13 +111,13 @@ impl<A: Agent> Core<A> {
         let plan = IndexedPlan::make(alloc, plan)?;
         let groups = groups_of(alloc, &plan)?;
         let journal = Vec::with_capacity(alloc, plan.plan().limit() as usize)?;
-        let counts = Vec::with_capacity(alloc, groups.len())?;
+        let counts = KeptCounts::make(alloc, groups.len())?;
         let parts = opening_parts(alloc, &plan, agents)?;
         Ok(Core::begun(plan, parts, groups, journal, counts))
     }
 
     /// The opening of the plan's run once more, with these agents; those that it had are dropped. It takes no memory, and
-    /// touches only what the run so far did, and the tables by declared object.
+    /// touches only what the run so far did, the tables by declared object, and the rows by arrival.
     pub fn begin_again(&mut self, agents: Vec<A>)
         requires { agents.items ≡ opening_agents self.old.plan A.meaning }
         ensures plan { self.new.plan ≡ self.old.plan }
@@ -115,6 +125,7 @@ impl<A: Agent> Core<A> {
     {
         self.parts.begin_again(&self.plan, agents);
         self.journal.clear();
+        self.counts.forget_all();
     }
 
     /// The core of an opening.
@@ -123,11 +134,11 @@ impl<A: Agent> Core<A> {
         parts: Parts<A>,
         groups: Vec<Group>,
         journal: Vec<Event>,
-        counts: Vec<usize>,
+        counts: KeptCounts,
     ) -> Core<A>
         requires under_way { IsUnderWay A.meaning plan [] parts groups.items (vec_capacity journal) }
         requires empty { journal.items ≡ [] }
-        requires room { length groups.items ≤ vec_capacity counts }
+        requires counts { Unknown (length groups.items) counts }
         ensures plan { result.plan ≡ plan }
         ensures journal { result.journal ≡ [] }
     {
@@ -163,7 +174,7 @@ impl<A: Agent> Core<A> {
         ensures length { result ≡ length (allowed self.now.plan A.meaning (state_after self.now.plan A.meaning self.now.journal)) }
         ensures small { result < 2 ^ 60 }
     {
-        allowed_len(&self.plan, &self.parts, &self.groups)
+        self.counts.len(&self.plan, &self.parts, &self.groups)
     }
 
     /// The k-th of these events; `None` exactly where there are fewer.
@@ -172,6 +183,25 @@ impl<A: Agent> Core<A> {
         ensures { result ≡ slice_get (allowed self.now.plan A.meaning (state_after self.now.plan A.meaning self.now.journal)) k }
     {
         allowed_at(&self.plan, &self.parts, &self.groups, k)
+    }
+
+    /// How many events may come, as `allowed_len`. The counts are kept.
+    fn count_allowed(&mut self) -> usize
+        requires { goes_on self.old.plan self.old.journal ≡ true }
+        ensures same { self.new ≡ self.old }
+        ensures length { result ≡ length (allowed self.old.plan A.meaning (state_after self.old.plan A.meaning self.old.journal)) }
+        ensures small { result < 2 ^ 60 }
+    {
+        self.counts.count(&self.plan, &self.parts, &self.groups)
+    }
+
+    /// The k-th of these events; `None` exactly where there are fewer. No group is searched of which the count is known
+    /// and says that it isn't there.
+    fn counted_at(&self, k: usize) -> Option<Event>
+        requires { goes_on self.now.plan self.now.journal ≡ true }
+        ensures { result ≡ slice_get (allowed self.now.plan A.meaning (state_after self.now.plan A.meaning self.now.journal)) k }
+    {
+        self.counts.at(&self.plan, &self.parts, &self.groups, k)
     }
 
     /// The place of the first of them of an actor; `None` exactly where there is none.
@@ -199,7 +229,8 @@ impl<A: Agent> Core<A> {
         }
     }
 
-    /// How many events may follow: none after a fault and at the limit of events.
+    /// How many events may follow: none after a fault and at the limit of events. It looks for nothing in the groups of
+    /// which the count is known.
     pub fn ready_len(&self) -> usize
         ensures length { result ≡ length (ready self.now.plan A.meaning self.now.journal) }
         ensures room { 0 < result → length self.now.journal < self.now.plan.limit }
@@ -208,7 +239,31 @@ impl<A: Agent> Core<A> {
         if !self.goes_on() {
             return 0;
         }
-        let count = self.allowed_len();
+        self.or_tick_len(self.allowed_len())
+    }
+
+    /// The same. What is counted for it is kept, and counted again only where an event may have changed it.
+    pub fn count_ready(&mut self) -> usize
+        ensures same { self.new ≡ self.old }
+        ensures length { result ≡ length (ready self.old.plan A.meaning self.old.journal) }
+        ensures room { 0 < result → length self.old.journal < self.old.plan.limit }
+    {
+        let _ = &self.plan;
+        if !self.goes_on() {
+            return 0;
+        }
+        let count = self.count_allowed();
+        self.or_tick_len(count)
+    }
+
+    /// How many events may follow, where so many may come, time aside.
+    fn or_tick_len(&self, count: usize) -> usize
+        requires going { goes_on self.now.plan self.now.journal ≡ true }
+        requires counted { count ≡ length (allowed self.now.plan A.meaning (state_after self.now.plan A.meaning self.now.journal)) }
+        ensures length { result ≡ length (ready self.now.plan A.meaning self.now.journal) }
+        ensures room { 0 < result → length self.now.journal < self.now.plan.limit }
+    {
+        let _ = &self.plan;
         if count > 0 {
             count
         } else if self.waits_for_time() {
@@ -257,7 +312,7 @@ impl<A: Agent> Core<A> {
         ensures { slice_get (ready self.now.plan A.meaning self.now.journal) k ≡ Some result }
     {
         let _ = &self.plan;
-        match self.allowed_at(k) {
+        match self.counted_at(k) {
             Some(event) => event,
             None => self.tick(),
         }
@@ -305,7 +360,7 @@ impl<A: Agent> Core<A> {
     }
 
     /// Goes on by the first of the events that may follow, and answers true; false, and nothing changes, where none
-    /// may. It looks for no other event, and takes no memory.
+    /// may. It looks for no other event; only for a tick it looks whether any other may come. It takes no memory.
     pub fn apply_first(&mut self) -> bool
         ensures plan { self.new.plan ≡ self.old.plan }
         ensures taken { IsTrue result → (event : Event) × (slice_get (ready self.old.plan A.meaning self.old.journal) 0 ≡ Some event) × (self.new.journal ≡ self.old.journal ++ event ∷ []) }
@@ -322,7 +377,8 @@ impl<A: Agent> Core<A> {
     }
 
     /// Goes on by the first event of a side among those that may follow, and answers true; false, and nothing changes,
-    /// where none of them is the side's. The groups of other sides are asked only whether the clock waits. It takes no memory.
+    /// where none of them is the side's. The groups of other sides are searched only where the tick would be the side's:
+    /// it comes where no group has an event. It takes no memory.
     pub fn apply_first_of(&mut self, side: Side) -> bool
         ensures plan { self.new.plan ≡ self.old.plan }
         ensures taken { IsTrue result → (event : Event) × (find (is_event_of side) (ready self.old.plan A.meaning self.old.journal) ≡ Some event) × (self.new.journal ≡ self.old.journal ++ event ∷ []) }
@@ -376,7 +432,8 @@ impl<A: Agent> Core<A> {
     }
 
     /// Goes on by the event that a pick names among those that may follow, and answers true; false, and nothing changes,
-    /// where none may. The events of each group are counted once. It takes no memory.
+    /// where none may. Of a group that no event since the last pick may have changed they aren't counted again. It takes
+    /// no memory.
     pub fn apply_pick(&mut self, pick: u64) -> bool
         ensures plan { self.new.plan ≡ self.old.plan }
         ensures taken { IsTrue result → (event : Event) × (slice_get (ready self.old.plan A.meaning self.old.journal) (pick % length (ready self.old.plan A.meaning self.old.journal)) ≡ Some event)
@@ -384,65 +441,12 @@ impl<A: Agent> Core<A> {
         ensures room { IsTrue result → length self.old.journal < self.old.plan.limit }
         ensures over { IsFalse result → (ready self.old.plan A.meaning self.old.journal ≡ []) × (self.new.journal ≡ self.old.journal) }
     {
-        match self.pick_ready(pick) {
-            Some(event) => {
-                self.take(event);
-                true
-            }
-            None => false,
+        let count = self.count_ready();
+        if count == 0 {
+            return false;
         }
-    }
-
-    /// The event that a pick names among those that may follow; `None` exactly where none may. Nothing changes.
-    fn pick_ready(&mut self, pick: u64) -> Option<Event>
-        ensures same { self.new ≡ self.old }
-        ensures picked { MatchOption result (ready self.old.plan A.meaning self.old.journal ≡ [])
-            (λ event. slice_get (ready self.old.plan A.meaning self.old.journal) (pick % length (ready self.old.plan A.meaning self.old.journal)) ≡ Some event) }
-    {
-        if self.is_over() {
-            return None;
-        }
-        match self.pick_allowed(pick) {
-            Some(event) => Some(event),
-            None => self.pick_tick(pick),
-        }
-    }
-
-    /// Whether the run can't go on: its last event is a fault, or it has as many events as its limit.
-    fn is_over(&self) -> bool
-        ensures over { IsTrue result → ready self.now.plan A.meaning self.now.journal ≡ [] }
-        ensures going { IsFalse result → goes_on self.now.plan self.now.journal ≡ true }
-    {
-        let _ = &self.plan;
-        !self.goes_on()
-    }
-
-    /// The event that a pick names, where one may come, time aside; `None` exactly where none may. Nothing changes.
-    fn pick_allowed(&mut self, pick: u64) -> Option<Event>
-        requires { goes_on self.old.plan self.old.journal ≡ true }
-        ensures same { self.new ≡ self.old }
-        ensures picked { MatchOption result (allowed self.old.plan A.meaning (state_after self.old.plan A.meaning self.old.journal) ≡ [])
-            (λ event. slice_get (ready self.old.plan A.meaning self.old.journal) (pick % length (ready self.old.plan A.meaning self.old.journal)) ≡ Some event) }
-    {
-        picked(
-            &self.plan,
-            &self.parts,
-            &self.groups,
-            &mut self.counts,
-            pick,
-        )
-    }
-
-    /// The event that a pick names, where none may come, time aside: the next tick, if something waits for it.
-    fn pick_tick(&self, pick: u64) -> Option<Event>
-        requires going { goes_on self.now.plan self.now.journal ≡ true }
-        requires none { allowed self.now.plan A.meaning (state_after self.now.plan A.meaning self.now.journal) ≡ [] }
-        ensures { MatchOption result (ready self.now.plan A.meaning self.now.journal ≡ [])
-            (λ event. slice_get (ready self.now.plan A.meaning self.now.journal) (pick % length (ready self.now.plan A.meaning self.now.journal)) ≡ Some event) }
-    {
-        let _ = &self.plan;
-        let _pick = pick;
-        self.tick_if_waiting()
+        self.apply(place_of(pick, count));
+        true
     }
 
     /// Goes on by this event, and answers true, exactly where it is among those that may follow; else nothing changes. It
@@ -502,6 +506,7 @@ impl<A: Agent> Core<A> {
     {
         step(&self.plan, &mut self.parts, &event);
         self.journal.push_reserved(event);
+        self.counts.forget_touched(&event);
     }
 
     /// How the run ended: [`Ending::Running`] where an event may follow.
@@ -586,13 +591,5 @@ impl<A: Agent> Core<A> {
             Ending::Stuck => wait_lines_len(&self.plan, &self.parts),
             _ => 0,
         }
-    }
-
-    /// The k-th line of the wait list: who waits, and why.
-    pub fn wait_at(&self, k: usize) -> WaitLine
-        requires { k < length (wait_list self.now.plan A.meaning self.now.journal) }
-        ensures { slice_get (wait_list self.now.plan A.meaning self.now.journal) k ≡ Some result }
-    {
-        wait_line_at(&self.plan, &self.parts, k)
     }
 }

@@ -14,7 +14,8 @@ use Rattle.wdf_replay.specs.declared.verdict.Why.{Why}
 use Rattle.wdf_replay.specs.declared.verdict.Verdict.TheVariants.{Accepted}
 use Rattle.wdf_replay.specs.Verdicts.{IsLeft, IsRefused}
 use Rattle.wdf_split.specs.Inputs.{scenario_in, trace_in}
-use Rattle.wdf_top.specs.Answers.{HasPlan, refused_line}
+use Rattle.wdf_replay.specs.Refused.{refused_line}
+use Rattle.wdf_top.specs.Answers.{HasPlan}
 use Rattle.wdf_top.specs.Causes.{IsCause}
 use Rattle.wdf_top.specs.Top.{Sourcing, IsRead, TellsBy}
 use Rattle.wdf_top.proofs.Due.{refusal_told}

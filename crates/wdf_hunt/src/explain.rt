@@ -5,7 +5,7 @@ ghost use Rattle.wdf_dev.specs.Agents.{agent_meaning};
 ghost use Rattle.wdf_explain_run.specs.Endings.{story};
 ghost use Rattle.wdf_io.specs.Outside.{EndsRefused};
 ghost use Rattle.wdf_output.specs.Said.{sinking};
-ghost use Rattle.wdf_top.specs.Answers.{HasPlan, refused_line, why_word};
+ghost use Rattle.wdf_top.specs.Answers.{HasPlan};
 ghost use Rattle.wdf_top.specs.Causes.{IsTextCause};
 ghost use Rattle.wdf_top.specs.Top.{IsRead, Sourcing, TellsBy, sourcing};
 ghost use Rattle.wdf_hunt.specs.Explained.{TellsExplained, TellsStory, explaining};
@@ -15,44 +15,16 @@ use std::alloc::Global;
 use wdf_base::Plan;
 use wdf_core::Core;
 use wdf_dev::AnyAgent;
+use wdf_exit::Exit;
 use wdf_explain_run::story_of_run;
 use wdf_io::{Sink, Source};
-use wdf_lines::Message;
 use wdf_output::{Refusal, say, tell};
 use wdf_parse::{TEXT_LIMIT, parse};
 use wdf_plan::resolve;
-use wdf_replay::{Verdict, Why, replay};
+use wdf_replay::{Verdict, refused_line, replay};
 use wdf_run_text::from_place;
 use wdf_split::split;
 use wdf_top::opening;
-
-/// The status of a trace that is refused.
-const REFUSED: u8 = 6;
-
-/// The word of a reason.
-fn why_word(why: Why) -> &'static [u8]
-    ensures value { result.now ≡ why_word why }
-    ensures small { length result.now ≤ 11 }
-{
-    match why {
-        Why::NotALine => b"NotALine",
-        Why::NotReady => b"NotReady",
-        Why::WrongEnding => b"WrongEnding",
-        Why::Missing => b"Missing",
-    }
-}
-
-/// The line of a trace of which this line is refused.
-fn refused_line(line: usize, why: Why) -> Message
-    ensures { result ≡ refused_line line why }
-{
-    let mut message = Message::new(b"refused at line ");
-    message.push_number(line as u64);
-    message.push(b": ");
-    message.push(why_word(why));
-    message.push(b"\n");
-    message
-}
 
 /// Writes the story of the ending of the run on a core, or the line `out of memory`.
 fn tell_ending<K: Sink>(alloc: Global, core: &Core<AnyAgent>, sink: &mut K) -> u8
@@ -62,7 +34,7 @@ fn tell_ending<K: Sink>(alloc: Global, core: &Core<AnyAgent>, sink: &mut K) -> u
     ensures not_again { result ≡ 13 → EndsRefused K.refused K.faults sink.old sink.new }
 {
     match story_of_run(alloc, core) {
-        Ok(text) => say(sink, text.bytes(), 0),
+        Ok(text) => say(sink, text.bytes(), Exit::Fine as u8),
         Err(memory) => tell(sink, Refusal::from(memory)),
     }
 }
@@ -78,7 +50,11 @@ fn tell_trace<K: Sink>(alloc: Global, core: &mut Core<AnyAgent>, trace: &[u8], s
 {
     match replay(core, trace) {
         Verdict::Accepted(_) => tell_ending(alloc, core, sink),
-        Verdict::RefusedAt { line, why } => say(sink, refused_line(line, why).bytes(), REFUSED),
+        Verdict::RefusedAt { line, why } => say(
+            sink,
+            refused_line(line, why).bytes(),
+            Exit::BadLine as u8,
+        ),
     }
 }
 

@@ -8,6 +8,7 @@ ghost use Rattle.wdf_hunt.specs.Answers.{IsStoryText, TellsDue};
 
 use std::alloc::Global;
 use wdf_base::Memory;
+use wdf_exit::Exit;
 use wdf_io::Sink;
 use wdf_output::{Refusal, say, tell};
 use wdf_shrink::{story_of_seed, story_text};
@@ -34,7 +35,7 @@ pub(crate) fn tell_story<K: Sink>(alloc: Global, case: Case, seed: u64, sink: &m
     ensures not_again { result ≡ 13 → EndsRefused K.refused K.faults sink.old sink.new }
 {
     match story_of(alloc, case, seed) {
-        Ok(text) => say(sink, text.as_slice(), 0),
+        Ok(text) => say(sink, text.as_slice(), Exit::Fine as u8),
         Err(memory) => tell(sink, Refusal::from(memory)),
     }
 }

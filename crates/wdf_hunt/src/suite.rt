@@ -15,6 +15,7 @@ use crate::table::HALVINGS;
 use std::alloc::Global;
 use std::thread::Threads;
 use wdf_base::Memory;
+use wdf_exit::Exit;
 use wdf_expect::ExpectError;
 use wdf_hunters::hunt_threads;
 use wdf_output::Refusal;
@@ -121,11 +122,14 @@ fn row_reason(alloc: Global, row: Option<&Row>) -> Result<Text, Memory>
 fn table_line(alloc: Global, number: u64, name: &[u8], tally: &Tally) -> Result<(Text, u8), Memory>
     ensures { IfOk result (λ (line, status). (line ≡ table_line number name.now tally.now) × (status ≡ table_answer tally.now)) }
 {
-    if tally.status() == 0 {
-        return Ok((good_line(alloc, number, name)?, 0));
+    if tally.status() == Exit::Fine as u8 {
+        return Ok((good_line(alloc, number, name)?, Exit::Fine as u8));
     }
     let reason = row_reason(alloc, tally.worst_row())?;
-    Ok((bad_line(alloc, number, name, reason.bytes())?, 1))
+    Ok((
+        bad_line(alloc, number, name, reason.bytes())?,
+        Exit::Broken as u8,
+    ))
 }
 
 /// The line of a file whose tries came to this, and its status.
@@ -180,7 +184,10 @@ pub fn suite_line<R: Threads + Sync>(
 {
     match case_in(alloc, text) {
         Ok(case) => case_line(rt, alloc, number, name, &case, from, count),
-        Err(refusal) => Ok((bad_line(alloc, number, name, refusal.line().bytes())?, 1)),
+        Err(refusal) => Ok((
+            bad_line(alloc, number, name, refusal.line().bytes())?,
+            Exit::Broken as u8,
+        )),
     }
 }
 

@@ -9,14 +9,12 @@ ghost use Rattle.wdf_hunt.specs.Sums.{IsSumText, TellsSum, TellsSumOf, sum_line,
 use crate::read::read_text;
 use std::alloc::Global;
 use wdf_base::Memory;
+use wdf_exit::Exit;
 use wdf_io::{Sink, Source};
 use wdf_lines::Message;
 use wdf_output::{Refusal, say, tell};
 use wdf_sum::{Bad, Sum, Why, sum_of};
 use wdf_writing::Text;
-
-/// The status of tables that are refused.
-const REFUSED: u8 = 6;
 
 /// The word of a reason.
 fn why_word(why: Why) -> &'static [u8]
@@ -88,7 +86,11 @@ fn tell_bad<K: Sink>(bad: Bad, sink: &mut K) -> u8
 {
     match bad {
         Bad::NoMemory => tell(sink, Refusal::NoMemory),
-        Bad::AtLine { line, why } => say(sink, refused_line(line, why).bytes(), REFUSED),
+        Bad::AtLine { line, why } => say(
+            sink,
+            refused_line(line, why).bytes(),
+            Exit::BadLine as u8,
+        ),
     }
 }
 

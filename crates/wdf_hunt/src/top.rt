@@ -15,6 +15,7 @@ use crate::table::tell_table;
 use crate::words::{Form, form_of};
 use std::alloc::Global;
 use std::thread::Threads;
+use wdf_exit::Exit;
 use wdf_hunters::Progress;
 use wdf_io::{Sink, Source};
 use wdf_output::{say, tell};
@@ -24,12 +25,6 @@ use wdf_tries::Case;
 const USAGE: &[u8] =
     b"usage: kmdfhunt seeds FROM COUNT [jitter TICKS] [--no-progress] | shrink N [jitter TICKS] | test FOLDER [FROM COUNT] | sum | explain\n";
 
-/// The status of words of no form.
-const USAGE_STATUS: u8 = 2;
-
-/// The status of a text with a comment `#!` that can't be read.
-const UNREAD_STATUS: u8 = 10;
-
 /// Writes why an input is no case.
 fn tell_refusal<K: Sink>(sink: &mut K, refusal: CaseRefusal) -> u8
     ensures said { Says (sinking (K.written sink.old) (K.written sink.new) (K.faults sink.old) (K.faults sink.new))
@@ -38,7 +33,7 @@ fn tell_refusal<K: Sink>(sink: &mut K, refusal: CaseRefusal) -> u8
 {
     match refusal {
         CaseRefusal::Scenario { refusal } => tell(sink, refusal),
-        CaseRefusal::Unread { .. } => say(sink, refusal.line().bytes(), UNREAD_STATUS),
+        CaseRefusal::Unread { .. } => say(sink, refusal.line().bytes(), Exit::NoScene as u8),
     }
 }
 
@@ -151,6 +146,6 @@ pub fn hunt<R: Threads + Sync, S: Source, K: Sink, P: Progress>(
         Some(Form::Shrink { seed, jitter }) => shrink(alloc, seed, jitter, source, sink),
         Some(Form::Sum) => add_tables(alloc, source, sink),
         Some(Form::Explain) => explain(alloc, source, sink),
-        None => say(sink, USAGE, USAGE_STATUS),
+        None => say(sink, USAGE, Exit::Usage as u8),
     }
 }

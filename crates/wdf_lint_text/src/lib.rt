@@ -8,6 +8,7 @@ ghost use Rattle.wdf_lint_text.specs.Lines.{answer_status, answer_text, finding_
 use itoa::Buffer;
 use std::alloc::Global;
 use wdf_base::Memory;
+use wdf_exit::Exit;
 use wdf_lint::{FindingList, LintAnswer};
 
 /// Adds these bytes.
@@ -99,7 +100,7 @@ pub fn answer_status(answer: &LintAnswer) -> u8
     ensures { result ≡ answer_status answer.now }
 {
     match answer {
-        LintAnswer::Clean => 0,
-        LintAnswer::Findings(_) => 7,
+        LintAnswer::Clean => Exit::Fine as u8,
+        LintAnswer::Findings(_) => Exit::Findings as u8,
     }
 }

@@ -15,12 +15,13 @@ use std::sync::Wait;
 use std::thread::Threads;
 use wdf_base::{Agent, Memory, Plan};
 use wdf_core::Core;
+use wdf_exit::Exit;
 use wdf_io::{Failed, Sink};
-use wdf_output::{SINK_FAULT, status_of, write_end};
+use wdf_output::{status_of, write_end};
 use wdf_turn::Gate;
 
 /// Makes a run by threads and writes its text: the line of each event as soon as it is in the history, and after the last
-/// one the ending and the wait list. Answers the status of the ending, or [`SINK_FAULT`] where the sink fails.
+/// one the ending and the wait list. Answers the status of the ending, or that of [`Exit::WriteFault`] where the sink fails.
 ///
 /// # Errors
 ///
@@ -42,13 +43,13 @@ pub fn write_watched<R: Threads + Wait + Sync, A: Agent + Send, K: Sink + Send, 
 {
     let (core, printed) = watch(rt, alloc, plan, core, gate, sink)?;
     if printed.failed {
-        return Ok(SINK_FAULT);
+        return Ok(Exit::WriteFault as u8);
     }
     Ok(write_rest(&core, printed.lines, sink))
 }
 
 /// Writes what comes after the lines of so many events: the other lines, the ending and the wait list. Answers the status of
-/// the ending, or [`SINK_FAULT`] where the sink fails.
+/// the ending, or that of [`Exit::WriteFault`] where the sink fails.
 #[tactic(auto, using(wdf_output::proofs::Sinks::ending_no_sink, wdf_output::proofs::Sinks::ends_later))]
 fn write_rest<A: Agent, K: Sink>(core: &Core<A>, lines: usize, sink: &mut K) -> u8
     requires ended { ending_of core.now.plan A.meaning core.now.journal ≢ ending.Running }
@@ -61,9 +62,9 @@ fn write_rest<A: Agent, K: Sink>(core: &Core<A>, lines: usize, sink: &mut K) -> 
     match write_left(core, lines, sink) {
         Ok(()) => match write_end(core, sink) {
             Ok(()) => status_of(core.ending()),
-            Err(_) => SINK_FAULT,
+            Err(_) => Exit::WriteFault as u8,
         },
-        Err(_) => SINK_FAULT,
+        Err(_) => Exit::WriteFault as u8,
     }
 }
 

@@ -7,5 +7,5 @@ mod texts;
 mod trace;
 
 pub use refusal::Refusal;
-pub use texts::{SINK_FAULT, say, tell};
+pub use texts::{say, tell};
 pub use trace::{status_of, write_end, write_line, write_run};

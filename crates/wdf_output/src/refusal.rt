@@ -4,6 +4,7 @@ ghost use Rattle.wdf_refusals.specs.Limits.{limit_word};
 ghost use Rattle.wdf_output.specs.Refusals.{parse_line, parse_status, plan_line, plan_status, refusal_line, refusal_status};
 
 use wdf_base::Memory;
+use wdf_exit::Exit;
 use wdf_input::InputError;
 use wdf_lines::{Message, one_number, two_numbers};
 use wdf_parse::ParseRefusal;
@@ -11,9 +12,6 @@ use wdf_plan::{Limit, PlanRefusal};
 
 /// The line of out of memory.
 const NO_MEMORY: &[u8] = b"out of memory\n";
-
-/// The status of out of memory.
-const NO_MEMORY_STATUS: u8 = 15;
 
 /// What is written before the line's number where a text is no scene.
 const PARSE: &[u8] = b"parse refused at line ";
@@ -55,9 +53,9 @@ impl Refusal {
         ensures { result ≡ refusal_status self }
     {
         match self {
-            Refusal::ReadFault => 12,
-            Refusal::TooLarge => 14,
-            Refusal::NoMemory => NO_MEMORY_STATUS,
+            Refusal::ReadFault => Exit::ReadFault as u8,
+            Refusal::TooLarge => Exit::TooLarge as u8,
+            Refusal::NoMemory => Exit::NoMemory as u8,
             Refusal::NoScene(refusal) => parse_status(refusal),
             Refusal::NoPlan(refusal) => plan_status(refusal),
         }
@@ -85,8 +83,8 @@ fn parse_status(refusal: ParseRefusal) -> u8
     ensures { result ≡ parse_status refusal }
 {
     match refusal {
-        ParseRefusal::Memory => NO_MEMORY_STATUS,
-        _ => 10,
+        ParseRefusal::Memory => Exit::NoMemory as u8,
+        _ => Exit::NoScene as u8,
     }
 }
 
@@ -121,8 +119,8 @@ fn plan_status(refusal: PlanRefusal) -> u8
     ensures { result ≡ plan_status refusal }
 {
     match refusal {
-        PlanRefusal::Memory => NO_MEMORY_STATUS,
-        _ => 11,
+        PlanRefusal::Memory => Exit::NoMemory as u8,
+        _ => Exit::NoPlan as u8,
     }
 }
 

@@ -5,12 +5,10 @@ ghost use Rattle.wdf_output.specs.Refusals.{refusal_line, refusal_status};
 ghost use Rattle.wdf_output.specs.Said.{Says, sinking};
 
 use crate::refusal::Refusal;
+use wdf_exit::Exit;
 use wdf_io::{Sink, write_all};
 
-/// The status of a call whose sink failed.
-pub const SINK_FAULT: u8 = 13;
-
-/// Writes a text, and answers the status, or [`SINK_FAULT`] where the sink fails.
+/// Writes a text, and answers the status, or that of [`Exit::WriteFault`] where the sink fails.
 pub fn say<K: Sink>(sink: &mut K, text: &[u8], status: u8) -> u8
     ensures said { Says (sinking (K.written sink.old) (K.written sink.new) (K.faults sink.old) (K.faults sink.new)) text.now status result }
     ensures never_falls { K.faults sink.old ≤ K.faults sink.new }
@@ -18,7 +16,7 @@ pub fn say<K: Sink>(sink: &mut K, text: &[u8], status: u8) -> u8
 {
     match write_all(sink, text) {
         Ok(()) => status,
-        Err(_) => SINK_FAULT,
+        Err(_) => Exit::WriteFault as u8,
     }
 }
 

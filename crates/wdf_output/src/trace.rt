@@ -10,9 +10,9 @@ ghost use Rattle.wdf_output.specs.Said.{Says, IsCutShort, sinking};
 ghost use Rattle.wdf_output.specs.Endings.{status_of, ending_lines};
 
 use crate::page::{Page, add_line};
-use crate::texts::SINK_FAULT;
 use wdf_base::{Agent, Ending, Event, Plan, WaitLine};
 use wdf_core::Core;
+use wdf_exit::Exit;
 use wdf_io::{Failed, Sink, write_all};
 use wdf_lines::{LINE_LIMIT, Line, ending_line, line_of, wait_line};
 
@@ -102,10 +102,11 @@ fn write_waits<A: Agent, K: Sink>(core: &Core<A>, sink: &mut K) -> Result<(), Fa
     ensures never_falls { K.faults sink.old ≤ K.faults sink.new }
     ensures not_again { OnErr result (EndsRefused K.refused K.faults sink.old sink.new) }
 {
-    for k in 0..core.wait_len() {
-        let wait = core.wait_at(k);
+    let mut place = core.first_wait();
+    for _k in 0..core.wait_len() {
+        let (wait, next) = core.next_wait(place);
         match write_wait(sink, core.plan(), &wait) {
-            Ok(()) => {}
+            Ok(()) => place = next,
             Err(failed) => return Err(failed),
         }
     }
@@ -132,7 +133,7 @@ pub fn write_end<A: Agent, K: Sink>(core: &Core<A>, sink: &mut K) -> Result<(), 
 }
 
 /// Writes the trace of a run that has ended, and answers the status of its ending, or
-/// [`SINK_FAULT`] where the sink fails. It takes no memory.
+/// that of [`Exit::WriteFault`] where the sink fails. It takes no memory.
 #[tactic(auto, using(crate::proofs::Sinks::ending_no_sink, crate::proofs::Sinks::ends_later))]
 pub fn write_run<A: Agent, K: Sink>(core: &Core<A>, sink: &mut K) -> u8
     requires { ending_of core.now.plan A.meaning core.now.journal ≢ Ending.Running }
@@ -145,9 +146,9 @@ pub fn write_run<A: Agent, K: Sink>(core: &Core<A>, sink: &mut K) -> u8
     match write_events(core, sink) {
         Ok(()) => match write_end(core, sink) {
             Ok(()) => status_of(core.ending()),
-            Err(_) => SINK_FAULT,
+            Err(_) => Exit::WriteFault as u8,
         },
-        Err(_) => SINK_FAULT,
+        Err(_) => Exit::WriteFault as u8,
     }
 }
 
@@ -156,9 +157,9 @@ pub fn status_of(ending: Ending) -> u8
     ensures { result ≡ status_of ending }
 {
     match ending {
-        Ending::Running | Ending::Finished => 0,
-        Ending::Fault(_) => 3,
-        Ending::Stuck => 4,
-        Ending::Limit => 5,
+        Ending::Running | Ending::Finished => Exit::Fine as u8,
+        Ending::Fault(_) => Exit::Fault as u8,
+        Ending::Stuck => Exit::Stuck as u8,
+        Ending::Limit => Exit::Limit as u8,
     }
 }

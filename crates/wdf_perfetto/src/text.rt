@@ -1,8 +1,7 @@
 //! Texts of plain ASCII.
-ghost use Rattle.std.specs.Prelude.{◌≡◌, ◌++◌, [], ◌∷◌, map, string_bytes, OnOk, IfOk};
+ghost use Rattle.std.specs.Prelude.{◌≡◌, ◌++◌, [], ◌∷◌, map, string_bytes, OnOk};
 ghost use Rattle.wdf_perfetto.specs.Titles.{plain};
 
-use std::alloc::Global;
 use wdf_base::Memory;
 
 /// The character of a byte, a question mark where it isn't ASCII.
@@ -31,13 +30,4 @@ pub(crate) fn add(text: &mut String, bytes: &[u8]) -> Result<(), Memory>
         }
     }
     Ok(())
-}
-
-/// The text of these bytes.
-pub(crate) fn text_of(alloc: Global, bytes: &[u8]) -> Result<String, Memory>
-    ensures { IfOk result (λ text. string_bytes text ≡ map plain bytes.now) }
-{
-    let mut text = String::new(alloc);
-    add(&mut text, bytes)?;
-    Ok(text)
 }

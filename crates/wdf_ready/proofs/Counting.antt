@@ -1,38 +1,70 @@
--- The counts of groups, and the group that a place falls in.
-use Rattle.std.specs.Prelude.{Result, Ok, Err, MatchResult}
-use Rattle.std.proofs.Common.{◌≡◌, ℕ, zero, suc, ◌+◌, ◌-◌, ◌<◌, ◌≤◌, List, [], ◌∷◌, ◌++◌, length, map, drop, take, Some, get_or, slice_get, refl, sym, ap, arith}
-use Rattle.std.specs.Result.{result_ok}
+-- Counts that are kept: those of the groups up to one are right, and one more.
+use Rattle.std.proofs.Common.{Bool, true, false, ◌≡◌, ℕ, ◌+◌, ◌<◌, ◌≤◌, ◌==◌, ◌^◌, ◌⊎◌, inl, inr, List, length, length-set, get_or, get_or-set_same, get_or-set_other, slice_set, slice_get, Some, refl, sym, ap, ◌∙◌, subst, arith}
+use Rattle.std.proofs.lemmas.Bool.{eqb-false, eqb-true}
+use Rattle.std.proofs.lemmas.List.{get_or_default}
+use Rattle.std.proofs.lemmas.Option.{slice_get_within}
 use Rattle.wdf_base.specs.Meaning.{Meaning}
-use Rattle.wdf_base.specs.declared.event.Event.{Event}
 use Rattle.wdf_base.specs.declared.plan.Plan.{Plan}
 use Rattle.wdf_model.specs.declared.enums.Group.{Group}
 use Rattle.wdf_model.specs.State.{State}
-use Rattle.wdf_ready.specs.Search.{events_of, offered_from, offered_len}
-use Rattle.wdf_ready.proofs.Passing.{Passed, group_at, group_left}
+use Rattle.wdf_ready.specs.Counts.{Counts, IsKept, is_stale}
+use Rattle.wdf_ready.specs.Search.{offered_len}
+use Rattle.wdf_ready.specs.declared.stale.Stale.{Stale}
+use Rattle.wdf_ready.specs.declared.stale.Stale.TheVariants as stale
 
-at_map : (f : Group → ℕ) (xs : List Group) (i : ℕ) (g : Group) → slice_get xs i ≡ Some g → get_or (map f xs) i 0 ≡ f g
-at_map f [] i g h = absurd (let z : ⊥ = cc in z)
-at_map f (x ∷ xs) zero g h = let same : x ≡ g = cc in ap f same
-at_map f (x ∷ xs) (suc i) g h = at_map f xs i g h
+-- the counts of the groups up to a place are right, and so are those of the others that are known
+pub record IsCountedTo {A : Type 0} (plan : Plan) (m : Meaning A) (S : State A) (all : List Group) (s : Stale) (each : List ℕ) (at : ℕ) : Type 0 where
+  pub filled : length each ≡ length all
+  pub small : (i : ℕ) → get_or each i 0 ≤ 2 ^ 32
+  pub right : (i : ℕ) (g : Group) → slice_get all i ≡ Some g → (i < at) ⊎ (is_stale s g ≡ false) → get_or each i 0 ≡ offered_len plan m S g
 
--- the count at a group's place is the group's
-pub count_of : (f : Group → ℕ) (counts : List ℕ) (xs : List Group) (i : ℕ) (g : Group) → counts ≡ map f xs → slice_get xs i ≡ Some g → get_or counts i 0 ≡ f g
-count_of f counts xs i g e h = rw e (at_map f xs i g h)
+-- what is written at a place
+read_written : (each : List ℕ) (at i n : ℕ) (b : Bool) → (i == at) ≡ b → at < length each → get_or each i 0 ≤ 2 ^ 32 → n ≤ 2 ^ 32 → get_or (slice_set each at n) i 0 ≤ 2 ^ 32
+read_written each at i n true e below low small = rw (eqb-true i at e, get_or-set_same each at n 0 below) small
+read_written each at i n false e below low small = rw (get_or-set_other each at i n 0 (eqb-false i at e)) low
 
--- a place below the count of a group is in the group
-pub in_group : {A : Type 0} (plan : Plan) (m : Meaning A) (S : State A) (groups : List Group) (all : List Event) (i left k : ℕ) (g : Group) (r : Result Event ℕ) → slice_get groups i ≡ Some g
-    → Passed all (events_of plan m S (drop i groups)) (k - left) → left ≤ k → left < offered_len plan m S g
-    → MatchResult r (λ event. slice_get (offered_from plan m S g 0) left ≡ Some event) (λ rest. length (offered_from plan m S g 0) + rest ≡ left) → result_ok r ≡ slice_get all k
-in_group plan m S groups all i left k g (Ok e) at p few low h = sym (group_at plan m S groups all i (k - left) left k g e at p (omega arith) h)
-in_group plan m S groups all i left k g (Err rest) at p few low h = absurd (omega arith)
+module _ {A : Type 0} (plan : Plan) (m : Meaning A) (S : State A) (all : List Group) (s : Stale) (each : List ℕ) where
+  pub none_counted : IsKept plan m S all (record { each = each; stale = s }) → IsCountedTo plan m S all s each 0
+  none_counted k = record {
+    filled = k.filled;
+    small = k.small;
+    right = λ i g is h. elim h [ inl below ↦ absurd (omega arith) | inr known ↦ k.known i g is known ];
+  }
 
--- the counts of the groups so far, and of the next one
-pub mapped_next : (f : Group → ℕ) (xs : List Group) (i : ℕ) (g : Group) → slice_get xs i ≡ Some g → map f (take (i + 1) xs) ≡ map f (take i xs) ++ f g ∷ []
-mapped_next f [] i g h = absurd (let z : ⊥ = cc in z)
-mapped_next f (x ∷ xs) zero g h = let same : x ≡ g = cc in ap (λ y. f y ∷ []) same
-mapped_next f (x ∷ xs) (suc i) g h = let s : suc i + 1 ≡ suc (i + 1) = omega arith in rw s (ap (λ ys. f x ∷ ys) (mapped_next f xs i g h))
+  pub all_counted : (at : ℕ) → length all ≤ at → IsCountedTo plan m S all s each at → IsKept plan m S all (record { each = each; stale = stale.Nothing })
+  all_counted at past k = record {
+    filled = k.filled;
+    small = k.small;
+    known = λ i g is known. let within = slice_get_within all i g is in k.right i g is (inl (omega arith));
+  }
 
--- a place that isn't below the count of a group is past it
-pub past_group : {A : Type 0} (plan : Plan) (m : Meaning A) (S : State A) (groups : List Group) (all : List Event) (i left k n : ℕ) (g : Group) → slice_get groups i ≡ Some g
-    → Passed all (events_of plan m S (drop i groups)) (k - left) → left ≤ k → n ≡ offered_len plan m S g → n ≤ left → Passed all (events_of plan m S (drop (i + 1) groups)) (k - (left - n))
-past_group plan m S groups all i left k n g at p few count low = group_left plan m S groups all i left k (left - n) g at p few (omega arith)
+  -- a count that is known, as it is read
+  pub read_right : (upto at : ℕ) (g : Group) (n : ℕ) → IsCountedTo plan m S all s each upto → slice_get all at ≡ Some g → n ≡ get_or each at n → is_stale s g ≡ false → n ≡ offered_len plan m S g
+  read_right upto at g n k is read known =
+      let within = slice_get_within all at g is in
+      let filled = k.filled in
+      let inside : at < length each = omega arith in
+      read ∙ get_or_default each at n 0 inside ∙ k.right at g is (inr known)
+
+  module _ (at n : ℕ) (g : Group) (is : slice_get all at ≡ Some g) (counts : n ≡ offered_len plan m S g) (low : n ≤ 2 ^ 32) (k : IsCountedTo plan m S all s each at) where
+    inside : at < length each
+    inside = let within = slice_get_within all at g is in let filled = k.filled in omega arith
+
+    still : (i : ℕ) (h : Group) → (i ≡ at → ⊥) → (i < at + 1) ⊎ (is_stale s h ≡ false) → (i < at) ⊎ (is_stale s h ≡ false)
+    still i h other (inl below) = inl (omega (arith, other))
+    still i h other (inr known) = inr known
+
+    right_by : (i : ℕ) (h : Group) (b : Bool) → (i == at) ≡ b → slice_get all i ≡ Some h → (i < at + 1) ⊎ (is_stale s h ≡ false) → get_or (slice_set each at n) i 0 ≡ offered_len plan m S h
+    right_by i h true e here why =
+        let place : i ≡ at = eqb-true i at e in
+        let there : slice_get all at ≡ Some h = subst (λ j. slice_get all j ≡ Some h) place here in
+        let same : g ≡ h = cc in
+        rw place (get_or-set_same each at n 0 inside) ∙ counts ∙ ap (offered_len plan m S) same
+    right_by i h false e here why = get_or-set_other each at i n 0 (eqb-false i at e) ∙ k.right i h here (still i h (eqb-false i at e) why)
+
+    pub one_counted : IsCountedTo plan m S all s (slice_set each at n) (at + 1)
+    one_counted = record {
+      filled = length-set each at n ∙ k.filled;
+      small = λ i. read_written each at i n (i == at) refl inside (k.small i) low;
+      right = λ i h here why. right_by i h (i == at) refl here why;
+    }

@@ -1,4 +1,5 @@
 pub mod Actors
+pub mod Counts
 pub mod Idle
 pub mod Search
 pub mod Leaving

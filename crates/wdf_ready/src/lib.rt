@@ -5,7 +5,7 @@
 mod actor;
 mod among;
 mod candidates;
-mod counted;
+mod counts;
 mod direct;
 mod due;
 mod endings;
@@ -14,12 +14,14 @@ mod idle;
 mod leaving;
 mod search;
 mod sides;
+mod stale;
 mod started;
 
 pub use actor::is_by;
 pub use among::is_allowed;
-pub use counted::picked;
+pub use counts::KeptCounts;
 pub use endings::{is_open, waits_for_time};
 pub use groups::groups_of;
-pub use search::{allowed_at, allowed_len, first_by};
+pub use search::{allowed_at, first_by};
 pub use sides::{Side, first_of, is_of};
+pub use stale::Stale;

@@ -2,3 +2,4 @@ pub mod RunLines
 pub mod Replayed
 pub mod Taken
 pub mod Complete
+pub mod AfterEvents

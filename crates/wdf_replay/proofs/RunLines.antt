@@ -52,13 +52,16 @@ runs_on plan m run event among =
 pub no_end_lines : {A : Type 0} (plan : Plan) (m : Meaning A) (run : List Event) → ending_of plan m run ≡ ending.Running → end_lines plan m run ≡ []
 no_end_lines plan m run h = ap (last_lines plan (length run) (wait_list plan m run)) h
 
+-- none of the lines after the events has come
+pub none_yet : {A : Type 0} (plan : Plan) (m : Meaning A) (run : List Event) (told : ℕ) (event : Event) → told ≤ length (end_lines plan m run) → IsAmong event (ready plan m run) → told ≡ 0
+none_yet plan m run told event within among = omega (arith, within, ap length (no_end_lines plan m run (runs_on plan m run event among)))
+
 -- the lines so far with one event more
 pub event_taken : {A : Type 0} (plan : Plan) (m : Meaning A) (run : List Event) (told number : ℕ) (event : Event) (line text : List ℕ)
     → told ≤ length (end_lines plan m run) → IsAmong event (ready plan m run) → number ≡ length run + 1 → line_text plan number event ≡ text → line ≡ fed text
     → (lines_so_far plan m (run ++ event ∷ []) told ≡ lines_so_far plan m run told ++ line ∷ []) × (told ≤ length (end_lines plan m (run ++ event ∷ [])))
 event_taken plan m run told number event line text within among is_number is_text is_line =
-    let none : end_lines plan m run ≡ [] = no_end_lines plan m run (runs_on plan m run event among) in
-    let e : told ≡ 0 = omega (arith, within, ap length none) in
+    let e : told ≡ 0 = none_yet plan m run told event within among in
     (rw (e, event_lines_push plan 1 run event, is_line, ← is_text, is_number) (append-nil _ ∙ sym (ap (λ l. l ++ fed (line_text plan (length run + 1) event) ∷ []) (append-nil (event_lines plan 1 run)))), omega (arith, e))
 
 -- ---- the lines after the events
@@ -138,10 +141,6 @@ whole_joined plan m run over =
 pub none_past : {T : Type 0} (xs : List T) (k : ℕ) (x : T) → length xs ≤ k → slice_get xs k ≡ Some x → ⊥
 none_past xs k x past h = let within : k < length xs = slice_get_within xs k x h in omega arith
 
-pub no_wait_past : {A : Type 0} (plan : Plan) (m : Meaning A) (run : List Event) (k : ℕ) (line : List ℕ)
-    → length (wait_list plan m run) ≤ k → slice_get (map (fed_wait plan) (wait_list plan m run)) k ≡ Some line → ⊥
-no_wait_past plan m run k line past h = none_past (map (fed_wait plan) (wait_list plan m run)) k line (omega (arith, past, length-map (wait_list plan m run) (fed_wait plan))) h
-
 pub no_end_running : {A : Type 0} (plan : Plan) (m : Meaning A) (run : List Event) (told : ℕ) (line : List ℕ)
     → ending_of plan m run ≡ ending.Running → slice_get (end_lines plan m run) told ≡ Some line → ⊥
 no_end_running plan m run told line running h = none_past (end_lines plan m run) told line (omega (arith, ap length (no_end_lines plan m run running))) h
@@ -155,14 +154,6 @@ pub end_first_back : {A : Type 0} (plan : Plan) (m : Meaning A) (run : List Even
 end_first_back plan m run told text over zeroth here =
     let there : Some (fed (ending_text (length run) (ending_of plan m run))) ≡ Some (fed text) = rw (zeroth, end_lines_over plan m run over) at here in
     fed_once (ending_text (length run) (ending_of plan m run)) text (let e : fed (ending_text (length run) (ending_of plan m run)) ≡ fed text = cc in e)
-
-later_place : {T : Type 0} (x : T) (xs : List T) (k : ℕ) → (k ≡ 0 → ⊥) → slice_get (x ∷ xs) k ≡ slice_get xs (k - 1)
-later_place x xs zero h = absurd (h refl)
-later_place x xs (suc k) h = let e : suc k - 1 ≡ k = omega arith in rw e refl
-
-pub end_later : {A : Type 0} (plan : Plan) (m : Meaning A) (run : List Event) (told : ℕ)
-    → (ending_of plan m run ≡ ending.Running → ⊥) → (told ≡ 0 → ⊥) → slice_get (end_lines plan m run) told ≡ slice_get (map (fed_wait plan) (wait_list plan m run)) (told - 1)
-end_later plan m run told over later = rw (end_lines_over plan m run over) (later_place (fed (ending_text (length run) (ending_of plan m run))) (map (fed_wait plan) (wait_list plan m run)) told later)
 
 pub length-end_lines : {A : Type 0} (plan : Plan) (m : Meaning A) (run : List Event) → (ending_of plan m run ≡ ending.Running → ⊥) → length (end_lines plan m run) ≡ length (wait_list plan m run) + 1
 length-end_lines plan m run over = omega (arith, ap length (end_lines_over plan m run over), length-map (wait_list plan m run) (fed_wait plan))

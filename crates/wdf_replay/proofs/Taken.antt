@@ -1,40 +1,24 @@
 -- One line is taken, or it is bad.
-use Rattle.std.proofs.Common.{◌≡◌, inl, inr, ℕ, ◌+◌, ◌<◌, ◌≤◌, ◌^◌, Bool, List, [], ◌∷◌, ◌++◌, length, map, Option, Some, None, Result, Ok, Err, option_map, refl, ap, ◌∙◌, sym, subst, arith, slice_get, IsTrue}
-use Rattle.std.proofs.lemmas.Option.{slice_get-map}
+use Rattle.std.proofs.Common.{◌≡◌, inl, inr, ℕ, ◌+◌, ◌<◌, ◌≤◌, ◌^◌, Bool, List, [], ◌∷◌, ◌++◌, length, Option, Some, None, Result, Ok, Err, refl, ap, ◌∙◌, sym, subst, arith, slice_get, IsTrue}
 use Rattle.wdf_base.specs.Meaning.{Meaning}
 use Rattle.wdf_base.specs.Resolved.{IsResolved}
 use Rattle.wdf_base.specs.declared.plan.Plan.{Plan}
 use Rattle.wdf_base.specs.declared.event.Event.{Event}
-use Rattle.wdf_base.specs.declared.wait.WaitLine.{WaitLine}
-use Rattle.wdf_model.specs.rules.Waits.{wait_list}
 use Rattle.wdf_model.proofs.Runs.{split_last}
 use Rattle.wdf_lines.specs.Lines.{line_text}
-use Rattle.wdf_lines.specs.Endings.{wait_text}
 use Rattle.wdf_trace.specs.Events.{IsEventOf}
 use Rattle.wdf_trace.specs.Waits.{IsEndingText}
 use Rattle.wdf_replay.specs.declared.verdict.Why.{Why}
 use Rattle.wdf_replay.specs.declared.verdict.Why.TheVariants as why
+use Rattle.wdf_replay.specs.declared.told.Told.{Told}
 use Rattle.wdf_replay.specs.declared.step.Reading.{Reading}
 use Rattle.wdf_replay.specs.declared.step.Reading.TheVariants as reading
 use Rattle.wdf_run_text.specs.Lines.{fed}
-use Rattle.wdf_run_text.specs.Texts.{end_lines, fed_wait}
+use Rattle.wdf_run_text.specs.Texts.{end_lines, lines_so_far}
 use Rattle.wdf_run_text.proofs.EventsOfPlans.{one_more}
 use Rattle.wdf_replay.specs.Verdicts.{IsEventText, IsWaitText, IsBadLine}
 use Rattle.wdf_replay.specs.Steps.{IsReadAs, IsTakenEnd, IsNoEventFor, IsTakenLine}
-use Rattle.wdf_replay.proofs.RunLines.{event_taken, end_taken, end_line_fed, fed_once}
-
--- a text is the k-th line of the wait list where it is that line's text
-pub wait_there : {A : Type 0} (plan : Plan) (m : Meaning A) (run : List Event) (k : ℕ) (text : List ℕ) (w : WaitLine) (same : Plan) (b : Bool)
-    → same ≡ plan → slice_get (wait_list plan m run) k ≡ Some w
-    → (IsTrue b → wait_text same w ≡ text) × (wait_text same w ≡ text → IsTrue b)
-    → (IsTrue b → slice_get (map (fed_wait plan) (wait_list plan m run)) k ≡ Some (fed text))
-    × (slice_get (map (fed_wait plan) (wait_list plan m run)) k ≡ Some (fed text) → IsTrue b)
-wait_there plan m run k text w same b is at tells =
-    let here : slice_get (map (fed_wait plan) (wait_list plan m run)) k ≡ Some (fed (wait_text plan w)) =
-    slice_get-map (fed_wait plan) (wait_list plan m run) k ∙ ap (λ o. option_map (fed_wait plan) o) at in (
-      λ yes. here ∙ ap (λ t. Some (fed t)) (ap (λ P. wait_text P w) (sym is) ∙ tells.0 yes),
-      λ there. tells.1 (ap (λ P. wait_text P w) is ∙ fed_once (wait_text plan w) text (let e : fed (wait_text plan w) ≡ fed text = cc (sym here ∙ there) in e)),
-    )
+use Rattle.wdf_replay.proofs.RunLines.{event_taken, end_taken, end_line_fed, fed_once, none_yet}
 
 -- ---- a text that is read
 
@@ -56,30 +40,32 @@ read_no_event plan m old new text same r is resolved none left each = (
 
 -- ---- a line that is taken
 
-pub taken_event : {A : Type 0} (plan : Plan) (m : Meaning A) (old new : List Event) (told : ℕ) (text : List ℕ) (r : Reading)
-    → r ≡ reading.Taken → told ≤ length (end_lines plan m old) → IsReadAs plan m old new text r → IsTakenLine plan m old new told (fed text) (Ok told)
+pub taken_event : {A : Type 0} (plan : Plan) (m : Meaning A) (old new : List Event) (told : Told) (text : List ℕ) (r : Reading)
+    → r ≡ reading.Taken → told.lines ≤ length (end_lines plan m old) → IsReadAs plan m old new text r → IsTakenLine plan m old new told (fed text) (Ok told)
 taken_event plan m old new told text reading.NotReady is within read = absurd (let z : ⊥ = cc in z)
 taken_event plan m old new told text reading.NoEvent is within read = absurd (let z : ⊥ = cc in z)
 taken_event plan m old new told text reading.Taken is within read =
-    let p = event_taken plan m old told (length old + 1) read.0 (fed text) text within read.2 refl read.3 refl in
-    rw read.4 (p.0, p.1, omega arith, λ valid. one_more plan old read.0 valid read.1)
+    let p = event_taken plan m old told.lines (length old + 1) read.0 (fed text) text within read.2 refl read.3 refl in
+    rw read.4 (p.0, p.1, omega arith, λ valid. one_more plan old read.0 valid read.1, inl (none_yet plan m old told.lines read.0 within read.2))
 
-not_next_fed : {A : Type 0} (plan : Plan) (m : Meaning A) (old new : List Event) (told : ℕ) (text : List ℕ) (y : Why) (r : Result ℕ Why)
-    → new ≡ old → IsTakenEnd (end_lines plan m old) told (fed text) y r
-    → ((slice_get (end_lines plan m old) told ≡ Some (fed text) → ⊥) → IsBadLine plan m old told y (fed text))
+not_next_fed : {A : Type 0} (plan : Plan) (m : Meaning A) (old new : List Event) (told : Told) (text : List ℕ) (y : Why) (r : Result Told Why)
+    → new ≡ old → IsTakenEnd plan m old told (fed text) y r
+    → ((slice_get (end_lines plan m old) told.lines ≡ Some (fed text) → ⊥) → IsBadLine plan m old told.lines y (fed text))
     → IsTakenLine plan m old new told (fed text) r
 not_next_fed plan m old new told text y (Ok now) left taken bad =
-    let p = end_taken plan m old told (fed text) taken.1 in
-    rw (left, taken.0) (p.0, p.1, omega arith, λ valid. valid)
-not_next_fed plan m old new told text y (Err z) left taken bad = (subst (λ w. IsBadLine plan m old told w (fed text)) (sym taken.0) (bad taken.1), left)
+    let p = end_taken plan m old told.lines (fed text) taken.1 in
+    let came : lines_so_far plan m old now.lines ≡ lines_so_far plan m old told.lines ++ fed text ∷ [] = rw taken.0 p.0 in
+    let within : now.lines ≤ length (end_lines plan m old) = rw taken.0 p.1 in
+    rw left (came, within, omega (arith, taken.0), λ valid. valid, taken.2)
+not_next_fed plan m old new told text y (Err z) left taken bad = (subst (λ w. IsBadLine plan m old told.lines w (fed text)) (sym taken.0) (bad taken.1), left)
 
-pub taken_not_ready : {A : Type 0} (plan : Plan) (m : Meaning A) (old new : List Event) (told : ℕ) (text : List ℕ) (read : Reading) (r : Result ℕ Why)
-    → read ≡ reading.NotReady → IsReadAs plan m old new text read → IsTakenEnd (end_lines plan m new) told (fed text) why.NotReady r
+pub taken_not_ready : {A : Type 0} (plan : Plan) (m : Meaning A) (old new : List Event) (told : Told) (text : List ℕ) (read : Reading) (r : Result Told Why)
+    → read ≡ reading.NotReady → IsReadAs plan m old new text read → IsTakenEnd plan m new told (fed text) why.NotReady r
     → IsTakenLine plan m old new told (fed text) r
 taken_not_ready plan m old new told text reading.Taken r is was taken = absurd (let z : ⊥ = cc in z)
 taken_not_ready plan m old new told text reading.NoEvent r is was taken = absurd (let z : ⊥ = cc in z)
 taken_not_ready plan m old new told text reading.NotReady r is was taken =
-    not_next_fed plan m old new told text why.NotReady r was.0 (subst (λ es. IsTakenEnd (end_lines plan m es) told (fed text) why.NotReady r) was.0 taken)
+    not_next_fed plan m old new told text why.NotReady r was.0 (subst (λ es. IsTakenEnd plan m es told (fed text) why.NotReady r) was.0 taken)
     (λ other. ((text, refl, was.1), other))
 
 no_event_bad : {A : Type 0} (plan : Plan) (m : Meaning A) (old : List Event) (told : ℕ) (text : List ℕ) (y : Why)
@@ -90,17 +76,17 @@ no_event_bad plan m old told text why.NotALine none for other =
 no_event_bad plan m old told text why.NotReady none for other = absurd for
 no_event_bad plan m old told text why.Missing none for other = absurd for
 
-pub taken_no_event : {A : Type 0} (plan : Plan) (m : Meaning A) (old new : List Event) (told : ℕ) (text : List ℕ) (read : Reading) (y : Why) (r : Result ℕ Why) (same : Plan)
-    → read ≡ reading.NoEvent → IsReadAs plan m old new text read → same ≡ plan → IsNoEventFor same text y → IsTakenEnd (end_lines plan m new) told (fed text) y r
+pub taken_no_event : {A : Type 0} (plan : Plan) (m : Meaning A) (old new : List Event) (told : Told) (text : List ℕ) (read : Reading) (y : Why) (r : Result Told Why) (same : Plan)
+    → read ≡ reading.NoEvent → IsReadAs plan m old new text read → same ≡ plan → IsNoEventFor same text y → IsTakenEnd plan m new told (fed text) y r
     → IsTakenLine plan m old new told (fed text) r
 taken_no_event plan m old new told text reading.Taken y r same is was is_plan for taken = absurd (let z : ⊥ = cc in z)
 taken_no_event plan m old new told text reading.NotReady y r same is was is_plan for taken = absurd (let z : ⊥ = cc in z)
 taken_no_event plan m old new told text reading.NoEvent y r same is was is_plan for taken =
-    not_next_fed plan m old new told text y r was.0 (subst (λ es. IsTakenEnd (end_lines plan m es) told (fed text) y r) was.0 taken)
-    (no_event_bad plan m old told text y was.1 (subst (λ P. IsNoEventFor P text y) is_plan for))
+    not_next_fed plan m old new told text y r was.0 (subst (λ es. IsTakenEnd plan m es told (fed text) y r) was.0 taken)
+    (no_event_bad plan m old told.lines text y was.1 (subst (λ P. IsNoEventFor P text y) is_plan for))
 
 -- a line that no line feed ends
-pub taken_none : {A : Type 0} (plan : Plan) (m : Meaning A) (old new : List Event) (told : ℕ) (line : List ℕ)
+pub taken_none : {A : Type 0} (plan : Plan) (m : Meaning A) (old new : List Event) (told : Told) (line : List ℕ)
     → new ≡ old → ((text : List ℕ) → line ≡ fed text → ⊥) → IsTakenLine plan m old new told line (Err why.NotALine)
 taken_none plan m old new told line left none =
-    ((λ text is. absurd (none text is), λ here. let p = end_line_fed plan m old told line here in none p.0 p.1), left)
+    ((λ text is. absurd (none text is), λ here. let p = end_line_fed plan m old told.lines line here in none p.0 p.1), left)

@@ -1,5 +1,5 @@
 -- What becomes of one line, after the lines of a run so far.
-use Rattle.std.specs.Prelude.{◌≡◌, ◌≢◌, ℕ, ◌+◌, ◌≤◌, ◌⊎◌, List, [], ◌∷◌, ◌++◌, length, Some, slice_get, Result, Ok, Err}
+use Rattle.std.specs.Prelude.{◌≡◌, ◌≢◌, ◌+◌, ◌≤◌, ◌⊎◌, ℕ, List, [], ◌∷◌, ◌++◌, drop, length, map, Some, slice_get, Result, Ok, Err}
 use Rattle.wdf_base.specs.Meaning.{Meaning}
 use Rattle.wdf_base.specs.declared.plan.Plan.{Plan}
 use Rattle.wdf_base.specs.declared.event.Event.{Event}
@@ -11,7 +11,9 @@ use Rattle.wdf_replay.specs.declared.verdict.Why.{Why}
 use Rattle.wdf_replay.specs.declared.verdict.Why.TheVariants as why
 use Rattle.wdf_replay.specs.declared.step.Reading.{Reading}
 use Rattle.wdf_replay.specs.declared.step.Reading.TheVariants as reading
-use Rattle.wdf_run_text.specs.Texts.{end_lines, lines_so_far, IsAmong, HasEventsOf}
+use Rattle.wdf_replay.specs.declared.told.Told.{Told}
+use Rattle.wdf_core.specs.Walks.{waits_from}
+use Rattle.wdf_run_text.specs.Texts.{end_lines, fed_wait, lines_so_far, IsAmong, HasEventsOf}
 use Rattle.wdf_replay.specs.Verdicts.{IsEventText, IsWaitText, IsNotReady, IsBadLine}
 
 -- what a text is as far as events go, with the events before and after
@@ -21,10 +23,16 @@ IsReadAs plan m old new text reading.Taken =
 IsReadAs plan m old new text reading.NotReady = (new ≡ old) × IsNotReady plan m old text
 IsReadAs plan m old new text reading.NoEvent = (new ≡ old) × (IsEventText plan text → ⊥)
 
+-- none of the lines after the events has come; or those that are left are the wait list's from this place on, as many as are counted
+abbrev pub IsTold : {A : Type 0} → Plan → Meaning A → List Event → Told → Type 0
+IsTold plan m run told =
+    (told.lines ≡ 0)
+    ⊎ ((drop told.lines (end_lines plan m run) ≡ map (fed_wait plan) (waits_from plan m run told.place)) × (length (waits_from plan m run told.place) ≡ told.left))
+
 -- the line was the next of the lines after the events; or it wasn't, and the reason is the given one
-abbrev pub IsTakenEnd : List (List ℕ) → ℕ → List ℕ → Why → Result ℕ Why → Type 0
-IsTakenEnd lines told line why (Ok now) = (now ≡ told + 1) × (slice_get lines told ≡ Some line)
-IsTakenEnd lines told line why (Err y) = (y ≡ why) × (slice_get lines told ≢ Some line)
+abbrev pub IsTakenEnd : {A : Type 0} → Plan → Meaning A → List Event → Told → List ℕ → Why → Result Told Why → Type 0
+IsTakenEnd plan m run told line why (Ok now) = (now.lines ≡ told.lines + 1) × (slice_get (end_lines plan m run) told.lines ≡ Some line) × IsTold plan m run now
+IsTakenEnd plan m run told line why (Err y) = (y ≡ why) × (slice_get (end_lines plan m run) told.lines ≢ Some line)
 
 -- why a text is bad that is the line of no event
 abbrev pub IsNoEventFor : Plan → List ℕ → Why → Type 0
@@ -33,8 +41,8 @@ IsNoEventFor plan text why.NotALine = (IsEndingText text → ⊥) × (IsWaitText
 IsNoEventFor plan text _ = ⊥
 
 -- The line was the next one, and is now among the lines so far; or it is bad, and there are no more events.
-abbrev pub IsTakenLine : {A : Type 0} → Plan → Meaning A → List Event → List Event → ℕ → List ℕ → Result ℕ Why → Type 0
+abbrev pub IsTakenLine : {A : Type 0} → Plan → Meaning A → List Event → List Event → Told → List ℕ → Result Told Why → Type 0
 IsTakenLine plan m old new told line (Ok now) =
-    (lines_so_far plan m new now ≡ lines_so_far plan m old told ++ line ∷ []) × (now ≤ length (end_lines plan m new)) × (now ≤ told + 1)
-    × (HasEventsOf plan old → HasEventsOf plan new)
-IsTakenLine plan m old new told line (Err why) = IsBadLine plan m old told why line × (new ≡ old)
+    (lines_so_far plan m new now.lines ≡ lines_so_far plan m old told.lines ++ line ∷ []) × (now.lines ≤ length (end_lines plan m new)) × (now.lines ≤ told.lines + 1)
+    × (HasEventsOf plan old → HasEventsOf plan new) × IsTold plan m new now
+IsTakenLine plan m old new told line (Err why) = IsBadLine plan m old told.lines why line × (new ≡ old)

@@ -21,9 +21,12 @@
 //!   the plan of a text.
 #![tactic(auto)]
 
+mod refused;
 mod replaying;
 mod step;
+mod told;
 mod verdict;
 
+pub use refused::refused_line;
 pub use replaying::replay;
 pub use verdict::{Verdict, Why};

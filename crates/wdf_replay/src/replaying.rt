@@ -8,6 +8,7 @@ ghost use Rattle.wdf_model.specs.rules.Ready.{ending_of};
 ghost use Rattle.wdf_replay.specs.Verdicts.{GivesVerdict, IsLeft, IsWhole};
 
 use crate::step::take_line;
+use crate::told::none_told;
 use crate::verdict::{Verdict, Why};
 use wdf_base::{Agent, Ending};
 use wdf_core::Core;
@@ -44,7 +45,7 @@ fn check_lines<A: Agent>(core: &mut Core<A>, trace: &[u8]) -> Verdict
 {
     let mut at = 0;
     let mut number = 1;
-    let mut told = 0;
+    let mut told = none_told(core);
     while at < trace.len() {
         let line = line_at(trace, at);
         let _events = core.journal_len();
@@ -55,7 +56,7 @@ fn check_lines<A: Agent>(core: &mut Core<A>, trace: &[u8]) -> Verdict
         at += line.len();
         number += 1;
     }
-    verdict_at_end(core, trace, told, number)
+    verdict_at_end(core, trace, told.lines, number)
 }
 
 /// Checks a trace on a core without events, and leaves on it the events of the lines before the first bad

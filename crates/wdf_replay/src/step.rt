@@ -1,15 +1,15 @@
 //! One line of a trace, after the lines of a run so far.
-ghost use Rattle.std.specs.Prelude.{◌≡◌, ◌≢◌, ◌↔◌, ◌+◌, ◌^◌, ◌<◌, ◌≤◌, ◌++◌, ◌∷◌, ◌⊎◌, [], length, map, slice_get, Some, IfSome, IfNone, IfOk, IfErr, IsTrue, IsFalse};
+ghost use Rattle.std.specs.Prelude.{◌≡◌, ◌≢◌, ◌↔◌, ◌+◌, ◌^◌, ◌<◌, ◌≤◌, ◌++◌, ◌∷◌, ◌⊎◌, [], length, slice_get, Some, IfSome, IfNone, IfOk, IfErr, IsTrue, IsFalse};
 ghost use Rattle.wdf_base.specs.Resolved.{IsResolved};
 ghost use Rattle.wdf_model.specs.rules.Ready.{IsRunOf, ending_of, ready};
-ghost use Rattle.wdf_model.specs.rules.Waits.{wait_list};
 ghost use Rattle.wdf_lines.specs.Endings.{ending_text, wait_text};
 ghost use Rattle.wdf_trace.specs.Waits.{IsEndingText};
 ghost use Rattle.wdf_run_text.specs.Lines.{fed};
-ghost use Rattle.wdf_run_text.specs.Texts.{end_lines, fed_wait, IsAmong};
+ghost use Rattle.wdf_run_text.specs.Texts.{end_lines, IsAmong};
 ghost use Rattle.wdf_replay.specs.Verdicts.{IsWaitText};
-ghost use Rattle.wdf_replay.specs.Steps.{IsReadAs, IsTakenEnd, IsNoEventFor, IsTakenLine};
+ghost use Rattle.wdf_replay.specs.Steps.{IsReadAs, IsTakenEnd, IsTold, IsNoEventFor, IsTakenLine};
 
+use crate::told::{Told, one_told};
 use crate::verdict::Why;
 use wdf_base::{Agent, Ending, Event, Plan, WaitLine};
 use wdf_core::Core;
@@ -70,35 +70,42 @@ fn is_line_of_wait(plan: &Plan, wait: &WaitLine, text: &[u8]) -> bool
     wait_line(plan, wait).bytes() == text
 }
 
-/// Whether a text is the k-th line of the wait list, without its line feed.
-fn is_wait_line<A: Agent>(core: &Core<A>, k: usize, text: &[u8]) -> bool
-    ensures { IsTrue result ↔ (slice_get (map (fed_wait core.now.plan) (wait_list core.now.plan A.meaning core.now.journal)) k ≡ Some (fed text.now)) }
+/// Whether a text is the next line of the wait list, without its line feed.
+fn is_wait_line<A: Agent>(core: &Core<A>, told: Told, text: &[u8]) -> bool
+    requires told { IsTold core.now.plan A.meaning core.now.journal told }
+    requires ended { told.lines ≢ 0 }
+    ensures { IsTrue result ↔ (slice_get (end_lines core.now.plan A.meaning core.now.journal) told.lines ≡ Some (fed text.now)) }
 {
-    k < core.wait_len() && is_line_of_wait(core.plan(), &core.wait_at(k), text)
+    if told.left == 0 {
+        return false;
+    }
+    let (wait, _place) = core.next_wait(told.place);
+    is_line_of_wait(core.plan(), &wait, text)
 }
 
-/// Whether a text is the next of the lines after the events of the run, where so many of them have come.
-fn is_end_line<A: Agent>(core: &Core<A>, told: usize, text: &[u8]) -> bool
-    ensures { IsTrue result ↔ (slice_get (end_lines core.now.plan A.meaning core.now.journal) told ≡ Some (fed text.now)) }
+/// Whether a text is the next of the lines after the events of the run.
+fn is_end_line<A: Agent>(core: &Core<A>, told: Told, text: &[u8]) -> bool
+    requires { IsTold core.now.plan A.meaning core.now.journal told }
+    ensures { IsTrue result ↔ (slice_get (end_lines core.now.plan A.meaning core.now.journal) told.lines ≡ Some (fed text.now)) }
 {
+    if told.lines > 0 {
+        return is_wait_line(core, told, text);
+    }
     if matches!(core.ending(), Ending::Running) {
         return false;
     }
-    if told == 0 {
-        is_ending_line(core, text)
-    } else {
-        is_wait_line(core, told - 1, text)
-    }
+    is_ending_line(core, text)
 }
 
-/// Takes a text for the next of the lines after the events, and answers how many of those there are by now;
+/// Takes a text for the next of the lines after the events, and answers how far these have come by now;
 /// the given reason where it is another line.
-fn take_end<A: Agent>(core: &Core<A>, told: usize, text: &[u8], why: Why) -> Result<usize, Why>
-    requires { told + 1 < 2 ^ 64 }
-    ensures { IsTakenEnd (end_lines core.now.plan A.meaning core.now.journal) told (fed text.now) why result }
+fn take_end<A: Agent>(core: &Core<A>, told: Told, text: &[u8], why: Why) -> Result<Told, Why>
+    requires told { IsTold core.now.plan A.meaning core.now.journal told }
+    requires few { told.lines + 1 < 2 ^ 64 }
+    ensures { IsTakenEnd core.now.plan A.meaning core.now.journal told (fed text.now) why result }
 {
     if is_end_line(core, told, text) {
-        Ok(told + 1)
+        Ok(one_told(core, told))
     } else {
         Err(why)
     }
@@ -125,11 +132,12 @@ fn why_no_event(plan: &Plan, text: &[u8]) -> Why
 }
 
 /// Takes the text of the next line: of an event that may follow, or of the next of the lines after the
-/// events. It answers how many of those there are by now, or why the line is bad.
-fn take_text<A: Agent>(core: &mut Core<A>, told: usize, text: &[u8]) -> Result<usize, Why>
+/// events. It answers how far these have come by now, or why the line is bad.
+fn take_text<A: Agent>(core: &mut Core<A>, told: Told, text: &[u8]) -> Result<Told, Why>
     requires resolved { IsResolved core.old.plan }
-    requires within { told ≤ length (end_lines core.old.plan A.meaning core.old.journal) }
-    requires few { told + 1 < 2 ^ 64 }
+    requires within { told.lines ≤ length (end_lines core.old.plan A.meaning core.old.journal) }
+    requires told { IsTold core.old.plan A.meaning core.old.journal told }
+    requires few { told.lines + 1 < 2 ^ 64 }
     ensures plan { core.new.plan ≡ core.old.plan }
     ensures taken { IsTakenLine core.old.plan A.meaning core.old.journal core.new.journal told (fed text.now) result }
 {
@@ -141,11 +149,12 @@ fn take_text<A: Agent>(core: &mut Core<A>, told: usize, text: &[u8]) -> Result<u
 }
 
 /// Takes the next line: an event that may follow, or the next of the lines after the events. It answers how
-/// many of those there are by now, or why the line is bad; then nothing changes.
-pub fn take_line<A: Agent>(core: &mut Core<A>, told: usize, line: &[u8]) -> Result<usize, Why>
+/// far these have come by now, or why the line is bad; then nothing changes.
+pub fn take_line<A: Agent>(core: &mut Core<A>, told: Told, line: &[u8]) -> Result<Told, Why>
     requires resolved { IsResolved core.old.plan }
-    requires within { told ≤ length (end_lines core.old.plan A.meaning core.old.journal) }
-    requires few { told + 1 < 2 ^ 64 }
+    requires within { told.lines ≤ length (end_lines core.old.plan A.meaning core.old.journal) }
+    requires told { IsTold core.old.plan A.meaning core.old.journal told }
+    requires few { told.lines + 1 < 2 ^ 64 }
     ensures plan { core.new.plan ≡ core.old.plan }
     ensures taken { IsTakenLine core.old.plan A.meaning core.old.journal core.new.journal told line.now result }
 {

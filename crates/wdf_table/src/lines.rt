@@ -6,6 +6,7 @@ use crate::row::Row;
 use crate::tally::Tally;
 use std::alloc::Global;
 use wdf_base::Memory;
+use wdf_exit::Exit;
 use wdf_writing::Text;
 
 /// The status of a run of a kind.
@@ -13,15 +14,15 @@ fn kind_status(kind: &[u8]) -> u8
     ensures { result ≡ kind_status kind.now }
 {
     if kind.starts_with(b"broken: ") {
-        1
+        Exit::Broken as u8
     } else if kind.starts_with(b"fault ") {
-        3
+        Exit::Fault as u8
     } else if kind.starts_with(b"stuck") {
-        4
+        Exit::Stuck as u8
     } else if kind.starts_with(b"limit") {
-        5
+        Exit::Limit as u8
     } else {
-        0
+        Exit::Fine as u8
     }
 }
 
@@ -29,9 +30,9 @@ fn kind_status(kind: &[u8]) -> u8
 fn worse(a: u8, b: u8) -> u8
     ensures { result ≡ worse a b }
 {
-    if a == 0 {
+    if a == Exit::Fine as u8 {
         b
-    } else if b == 0 {
+    } else if b == Exit::Fine as u8 {
         a
     } else {
         a.min(b)
@@ -109,7 +110,7 @@ impl Tally {
         ensures { result ≡ table_status self.now }
     {
         self.rows().iter().fold(
-            0,
+            Exit::Fine as u8,
             |status, row| worse(status, kind_status(row.kind.bytes())),
         )
     }

@@ -19,12 +19,13 @@ use Rattle.wdf_replay.specs.declared.verdict.Verdict.{Verdict}
 use Rattle.wdf_replay.specs.declared.verdict.Verdict.TheVariants as verdict
 use Rattle.wdf_run_text.specs.Lines.{fed}
 use Rattle.wdf_run_text.specs.Texts.{event_lines, fed_wait, lines_so_far}
+use Rattle.wdf_replay.specs.Refused.{refused_line}
 use Rattle.wdf_replay.specs.Verdicts.{GivesVerdict, IsAccepted, IsBad, IsLeft, IsRefused, IsWhole}
 use Rattle.wdf_replay.proofs.Complete.{complete}
 use Rattle.wdf_replay.proofs.RunLines.{end_lines_over}
 use Rattle.wdf_split.specs.Inputs.{scenario_in, trace_in}
 use Rattle.wdf_output.specs.Said.{Sinking, Says}
-use Rattle.wdf_top.specs.Answers.{Answers, HasPlan, IsVerdict, Canonical, Run, Judgement, Findings, accepted_line, judging, refused_line, verdict_line, verdict_status}
+use Rattle.wdf_top.specs.Answers.{Answers, HasPlan, IsVerdict, Canonical, Run, Judgement, Findings, accepted_line, judging, verdict_line, verdict_status}
 use Rattle.wdf_top.specs.Causes.{IsGiven, Stayed, Unhindered, WroteAccepted, WroteRefused}
 use Rattle.wdf_top.specs.Top.{Sourcing, Service, IsAnswered, Tells, TellsBy, TellsVerdict, Usage, Reads, Scenario, Summary}
 use Rattle.wdf_top.proofs.Causes.{whole_answer}

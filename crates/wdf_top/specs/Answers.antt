@@ -1,5 +1,5 @@
 -- What an input is answered: which text is to be written, and with which status. (own)
-use Rattle.std.specs.Prelude.{◌++◌, ℕ, ◌≡◌, ◌≢◌, ◌⊎◌, List, length, codes, decimal, None, Some, Err}
+use Rattle.std.specs.Prelude.{◌++◌, ℕ, ◌≡◌, ◌≢◌, ◌⊎◌, List, length, codes, None, Some, Err}
 use Rattle.wdf_base.specs.Meaning.{Meaning}
 use Rattle.wdf_base.specs.declared.plan.Plan.{Plan}
 use Rattle.wdf_base.specs.declared.event.Event.{Event}
@@ -21,8 +21,8 @@ use Rattle.wdf_gen.specs.Generated.{generated}
 use Rattle.wdf_replay.specs.declared.verdict.Verdict.{Verdict}
 use Rattle.wdf_replay.specs.declared.verdict.Verdict.TheVariants as verdicts
 use Rattle.wdf_replay.specs.declared.verdict.Why.{Why}
-use Rattle.wdf_replay.specs.declared.verdict.Why.TheVariants as why
 use Rattle.wdf_run_text.specs.Texts.{text_of}
+use Rattle.wdf_replay.specs.Refused.{refused_line}
 use Rattle.wdf_replay.specs.Verdicts as verdict
 use Rattle.wdf_output.specs.Endings.{status_of}
 use Rattle.wdf_output.specs.Refusals.{parse_line, plan_line}
@@ -84,20 +84,9 @@ pub record IsSummaryOf (n : ℕ) (text : List ℕ) (status : ℕ) : Type 0 where
 
 -- ---- verdicts
 
--- the word of a reason
-abbrev pub why_word : Why → List ℕ
-why_word why.NotALine = codes "NotALine"
-why_word why.NotReady = codes "NotReady"
-why_word why.WrongEnding = codes "WrongEnding"
-why_word why.Missing = codes "Missing"
-
 -- the line of a trace that is accepted: it has so many events and ended so
 abbrev pub accepted_line : ℕ → Ending → List ℕ
 accepted_line events e = codes "accepted " ++ ending_text events e ++ codes "\n"
-
--- the line of a trace of which this line is refused
-abbrev pub refused_line : ℕ → Why → List ℕ
-refused_line line y = codes "refused at line " ++ decimal line ++ codes ": " ++ why_word y ++ codes "\n"
 
 -- the line of a verdict, where an accepted trace has so many events
 abbrev pub verdict_line : ℕ → Verdict → List ℕ

@@ -15,6 +15,7 @@ use Rattle.wdf_plan.specs.Plans.{plan_of}
 use Rattle.wdf_gen.specs.Generated.{generated}
 use Rattle.wdf_replay.specs.declared.verdict.Why.{Why}
 use Rattle.wdf_run_text.specs.Texts.{text_of}
+use Rattle.wdf_replay.specs.Refused.{refused_line}
 use Rattle.wdf_replay.specs.Verdicts as verdict
 use Rattle.wdf_split.specs.Inputs.{scenario_in, trace_in}
 use Rattle.wdf_summary.specs.Counts.{summary_text}
@@ -24,7 +25,7 @@ use Rattle.wdf_output.specs.declared.refusal.Refusal.{Refusal}
 use Rattle.wdf_output.specs.declared.refusal.Refusal.TheVariants.{ReadFault, TooLarge, NoMemory, NoScene, NoPlan}
 use Rattle.wdf_top.specs.declared.run.Picks.TheVariants.{Seeded}
 use Rattle.wdf_top.specs.Agents.{RunAgents, meaning_of}
-use Rattle.wdf_top.specs.Answers.{HasPlan, Picking, IsRunBy, Run, picks_of, accepted_line, refused_line}
+use Rattle.wdf_top.specs.Answers.{HasPlan, Picking, IsRunBy, Run, picks_of, accepted_line}
 use Rattle.wdf_input.specs.Input.{TakesAll, TakesCount, TakesAtMost}
 use Rattle.wdf_lint.specs.Answers.{IsAnswer}
 use Rattle.wdf_lint.specs.declared.static_check.LintAnswer.{LintAnswer}

@@ -16,12 +16,13 @@ use Rattle.wdf_parse.specs.Printing.{printed}
 use Rattle.wdf_refusals.specs.declared.refusal.PlanRefusal.{PlanRefusal}
 use Rattle.wdf_replay.specs.declared.verdict.Why.{Why}
 use Rattle.wdf_replay.specs.declared.verdict.Why.TheVariants as why
+use Rattle.wdf_replay.specs.Refused.{refused_line}
 use Rattle.wdf_replay.specs.Verdicts.{IsRefused, IsWhole}
 use Rattle.wdf_output.specs.Refusals.{no_memory_line}
 use Rattle.wdf_output.specs.Said.{Sinking, IsCutShort}
 use Rattle.wdf_split.specs.Inputs.{scenario_in, trace_in}
 use Rattle.wdf_top.specs.Agents.{RunAgents, meaning_of}
-use Rattle.wdf_top.specs.Answers.{Answers, HasNoScene, HasNoPlan, HasPlan, IsTraceOf, IsVerdict, IsSummaryOf, IsLinted, Picking, Reading, Run, Judgement, Findings, answering_of, refused_line}
+use Rattle.wdf_top.specs.Answers.{Answers, HasNoScene, HasNoPlan, HasPlan, IsTraceOf, IsVerdict, IsSummaryOf, IsLinted, Picking, Reading, Run, Judgement, Findings, answering_of}
 use Rattle.wdf_top.specs.Causes.{is_status, IsGiven, Stayed, Unhindered, WroteAccepted, WroteFor, WroteLint, WroteRefused, WroteRun, WroteSummary}
 use Rattle.wdf_top.specs.Top.{Sourcing, Service, Usage, Reads, Scenario, Summary, IsDue, Tells, TellsPlan, reads_input, scenario_by}
 

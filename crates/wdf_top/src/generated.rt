@@ -8,6 +8,7 @@ ghost use Rattle.wdf_top.specs.Top.{TellsScenario};
 
 use std::alloc::Global;
 use wdf_base::Memory;
+use wdf_exit::Exit;
 use wdf_gen::generate;
 use wdf_io::Sink;
 use wdf_output::{Refusal, say, tell};
@@ -21,7 +22,7 @@ pub fn tell_generated<K: Sink>(alloc: Global, number: u64, sink: &mut K) -> u8
     ensures not_again { result ≡ 13 → EndsRefused K.refused K.faults sink.old sink.new }
 {
     match generated_text(alloc, number) {
-        Ok(text) => say(sink, &text, 0),
+        Ok(text) => say(sink, &text, Exit::Fine as u8),
         Err(memory) => tell(sink, Refusal::from(memory)),
     }
 }

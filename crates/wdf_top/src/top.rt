@@ -17,6 +17,7 @@ use crate::verdict::judge_input;
 use crate::words::{Form, form_of};
 use std::alloc::Global;
 use wdf_dev::AnyAgent;
+use wdf_exit::Exit;
 use wdf_idle::IdleAgent;
 use wdf_io::{Sink, Source};
 use wdf_output::{say, tell};
@@ -25,9 +26,6 @@ use wdf_stack::StackAgent;
 /// What is written for words of no form.
 const USAGE: &[u8] =
     b"usage: kmdfsim check | order | seed N | run | replay | gen N | load N | idle | stack | lint | watch\n";
-
-/// The status of words of no form.
-const USAGE_STATUS: u8 = 2;
 
 /// Serves the words after the program's name, and answers the status to end with. It
 /// always returns.
@@ -82,7 +80,7 @@ fn answer<S: Source, K: Sink>(alloc: Global, form: Option<Form>, source: &mut S,
     ensures not_again { result ≡ 13 → EndsRefused K.refused K.faults sink.old sink.new }
 {
     match form {
-        None => say(sink, USAGE, USAGE_STATUS),
+        None => say(sink, USAGE, Exit::Usage as u8),
         Some(Form::Check) => check(alloc, source, sink),
         Some(Form::Order) => run::<AnyAgent, S, K>(alloc, Picks::Listed, source, sink),
         Some(Form::Seed(seed)) => run::<AnyAgent, S, K>(alloc, Picks::Seeded(seed), source, sink),
@@ -104,7 +102,7 @@ fn check<S: Source, K: Sink>(alloc: Global, source: &mut S, sink: &mut K) -> u8
     ensures not_again { result ≡ 13 → EndsRefused K.refused K.faults sink.old sink.new }
 {
     match read_canonical(alloc, source) {
-        Ok(text) => say(sink, &text, 0),
+        Ok(text) => say(sink, &text, Exit::Fine as u8),
         Err(refusal) => tell(sink, refusal),
     }
 }

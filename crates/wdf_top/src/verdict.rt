@@ -3,7 +3,7 @@ ghost use Rattle.std.specs.Prelude.{◌≡◌, ◌≢◌, ◌≤◌, [], length}
 ghost use Rattle.wdf_base.specs.Resolved.{IsResolved};
 ghost use Rattle.wdf_io.specs.Outside.{EndsRefused};
 ghost use Rattle.wdf_output.specs.Said.{Says, sinking};
-ghost use Rattle.wdf_top.specs.Answers.{accepted_line, judging, refused_line, verdict_line, verdict_status, why_word};
+ghost use Rattle.wdf_top.specs.Answers.{accepted_line, judging, verdict_line, verdict_status};
 ghost use Rattle.wdf_top.specs.Top.{IsRead, Sourcing, TellsBy, TellsVerdict};
 
 use crate::run::opening;
@@ -12,29 +12,14 @@ use std::alloc::Global;
 use wdf_base::{Ending, Plan};
 use wdf_core::Core;
 use wdf_dev::AnyAgent;
+use wdf_exit::Exit;
 use wdf_io::Sink;
 use wdf_lines::{Message, ending_word};
 use wdf_output::{Refusal, say, tell};
 use wdf_parse::TEXT_LIMIT;
-use wdf_replay::{Verdict, Why, replay};
+use wdf_replay::{Verdict, refused_line, replay};
 use wdf_run_text::from_place;
 use wdf_split::split;
-
-/// The status of a trace that is refused.
-const REFUSED: u8 = 6;
-
-/// The word of a reason.
-fn why_word(why: Why) -> &'static [u8]
-    ensures value { result.now ≡ why_word why }
-    ensures small { length result.now ≤ 11 }
-{
-    match why {
-        Why::NotALine => b"NotALine",
-        Why::NotReady => b"NotReady",
-        Why::WrongEnding => b"WrongEnding",
-        Why::Missing => b"Missing",
-    }
-}
 
 /// The line of a trace that is accepted.
 #[tactic(auto, using(crate::proofs::Lines::accepted_joined))]
@@ -49,18 +34,6 @@ fn accepted_line(events: usize, ending: Ending) -> Message
     message
 }
 
-/// The line of a trace of which this line is refused.
-fn refused_line(line: usize, why: Why) -> Message
-    ensures { result ≡ refused_line line why }
-{
-    let mut message = Message::new(b"refused at line ");
-    message.push_number(line as u64);
-    message.push(b": ");
-    message.push(why_word(why));
-    message.push(b"\n");
-    message
-}
-
 /// Writes the verdict on a trace, whose run has so many events where it is accepted.
 fn say_verdict<K: Sink>(events: usize, verdict: Verdict, sink: &mut K) -> u8
     ensures said { Says (sinking (K.written sink.old) (K.written sink.new) (K.faults sink.old) (K.faults sink.new))
@@ -68,8 +41,16 @@ fn say_verdict<K: Sink>(events: usize, verdict: Verdict, sink: &mut K) -> u8
     ensures not_again { result ≡ 13 → EndsRefused K.refused K.faults sink.old sink.new }
 {
     match verdict {
-        Verdict::Accepted(ending) => say(sink, accepted_line(events, ending).bytes(), 0),
-        Verdict::RefusedAt { line, why } => say(sink, refused_line(line, why).bytes(), REFUSED),
+        Verdict::Accepted(ending) => say(
+            sink,
+            accepted_line(events, ending).bytes(),
+            Exit::Fine as u8,
+        ),
+        Verdict::RefusedAt { line, why } => say(
+            sink,
+            refused_line(line, why).bytes(),
+            Exit::BadLine as u8,
+        ),
     }
 }
 

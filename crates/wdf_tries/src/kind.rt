@@ -1,11 +1,10 @@
 //! The kind of a run.
 ghost use Rattle.std.specs.Prelude.{◌≡◌, ◌-◌, IfOk};
 ghost use Rattle.wdf_kinds.specs.Kinds.{fault_line};
-ghost use Rattle.wdf_model.specs.rules.Waits.{wait_list};
 ghost use Rattle.wdf_tries.specs.Tries.{ending_kind, kind_of};
 
 use std::alloc::Global;
-use wdf_base::{Agent, Memory, WaitLine};
+use wdf_base::{Agent, Memory};
 use wdf_core::Core;
 use wdf_expect::{Expectation, judged};
 use wdf_kinds::{kind_text, line_of_fault};
@@ -22,22 +21,11 @@ fn fault_line<A: Agent>(core: &Core<A>) -> u32
     line_of_fault(Some(core.journal_at(count - 1)))
 }
 
-/// The wait list of a run.
-fn waits_of<A: Agent>(alloc: Global, core: &Core<A>) -> Result<Vec<WaitLine>, Memory>
-    ensures { IfOk result (λ waits. waits.items ≡ wait_list core.now.plan A.meaning core.now.journal) }
-{
-    let mut waits = Vec::new(alloc);
-    for k in 0..core.wait_len() {
-        waits.push(core.wait_at(k))?;
-    }
-    Ok(waits)
-}
-
 /// The kind in which the run of a core ends, whatever is expected.
 fn ending_kind<A: Agent>(alloc: Global, core: &Core<A>) -> Result<Text, Memory>
     ensures { IfOk result (λ kind. kind ≡ ending_kind core.now.plan A.meaning core.now.journal) }
 {
-    let waits = waits_of(alloc, core)?;
+    let waits = core.wait_list(alloc)?;
     kind_text(
         alloc,
         core.plan(),

@@ -1,5 +1,5 @@
 -- When an input is shown, and when and why it isn't. (own)
-use Rattle.std.specs.Prelude.{ℕ, ◌≡◌, ◌≤◌, ◌<◌, ◌+◌, ◌⊎◌, ◌++◌, List, length, codes, decimal, Option, None, Some}
+use Rattle.std.specs.Prelude.{ℕ, ◌≡◌, ◌≤◌, ◌<◌, ◌+◌, ◌⊎◌, List, length, Option, None, Some}
 use Rattle.wdf_base.specs.declared.plan.Plan.{Plan}
 use Rattle.wdf_base.specs.declared.event.Ending.{Ending}
 use Rattle.wdf_scene.specs.declared.scene.Scene.{Scene}
@@ -11,7 +11,7 @@ use Rattle.wdf_refusals.specs.declared.refusal.PlanRefusal.TheVariants as plan
 use Rattle.wdf_refusals.specs.First.{first_refusal}
 use Rattle.wdf_plan.specs.Plans.{plan_of}
 use Rattle.wdf_replay.specs.declared.verdict.Why.{Why}
-use Rattle.wdf_replay.specs.declared.verdict.Why.TheVariants as why
+use Rattle.wdf_replay.specs.Refused.{refused_line}
 use Rattle.wdf_replay.specs.Verdicts as verdict
 use Rattle.wdf_split.specs.Inputs.{scenario_in, trace_in}
 use Rattle.wdf_io.specs.Outside.{Rose}
@@ -101,17 +101,6 @@ IsCause s (Unread (NoPlan refusal)) = (input : List ℕ) × IsRead s input × Is
 IsCause s (BadTrace line y) = (input : List ℕ) × IsRead s input × IsBadTrace input line y
 
 -- ---- what is written then: the lines and statuses of `kmdfsim replay`
-
--- the word of a reason
-abbrev pub why_word : Why → List ℕ
-why_word why.NotALine = codes "NotALine"
-why_word why.NotReady = codes "NotReady"
-why_word why.WrongEnding = codes "WrongEnding"
-why_word why.Missing = codes "Missing"
-
--- the line of a trace of which this line is refused
-abbrev pub refused_line : ℕ → Why → List ℕ
-refused_line line y = codes "refused at line " ++ decimal line ++ codes ": " ++ why_word y ++ codes "\n"
 
 abbrev pub bad_line : Bad → List ℕ
 bad_line (Unread refusal) = refusal_line refusal

@@ -1,13 +1,13 @@
 //! Why there is no picture.
-ghost use Rattle.std.specs.Prelude.{◌≡◌, ◌≤◌, length};
+ghost use Rattle.std.specs.Prelude.{◌≡◌};
 ghost use Rattle.wdf_io.specs.Outside.{EndsRefused};
 ghost use Rattle.wdf_output.specs.Said.{Says, sinking};
-ghost use Rattle.wdf_view.specs.Causes.{bad_line, bad_status, refused_line, why_word};
+ghost use Rattle.wdf_view.specs.Causes.{bad_line, bad_status};
 
+use wdf_exit::Exit;
 use wdf_io::Sink;
-use wdf_lines::Message;
 use wdf_output::{Refusal, say, tell};
-use wdf_replay::Why;
+use wdf_replay::{Why, refused_line};
 
 /// Why there is no picture.
 #[derive(Clone, Copy)]
@@ -18,34 +18,6 @@ pub enum Bad {
     BadTrace { line: usize, why: Why },
 }
 
-/// The status of a trace that is refused.
-const REFUSED: u8 = 6;
-
-/// The word of a reason.
-fn why_word(why: Why) -> &'static [u8]
-    ensures value { result.now ≡ why_word why }
-    ensures small { length result.now ≤ 11 }
-{
-    match why {
-        Why::NotALine => b"NotALine",
-        Why::NotReady => b"NotReady",
-        Why::WrongEnding => b"WrongEnding",
-        Why::Missing => b"Missing",
-    }
-}
-
-/// The line of a trace of which this line is refused.
-fn refused_line(line: usize, why: Why) -> Message
-    ensures { result ≡ refused_line line why }
-{
-    let mut message = Message::new(b"refused at line ");
-    message.push_number(line as u64);
-    message.push(b": ");
-    message.push(why_word(why));
-    message.push(b"\n");
-    message
-}
-
 /// Writes the line that says why there is no picture, and answers its status.
 pub(crate) fn tell_bad<K: Sink>(sink: &mut K, bad: Bad) -> u8
     ensures said { Says (sinking (K.written sink.old) (K.written sink.new) (K.faults sink.old) (K.faults sink.new)) (bad_line bad) (bad_status bad) result }
@@ -53,6 +25,10 @@ pub(crate) fn tell_bad<K: Sink>(sink: &mut K, bad: Bad) -> u8
 {
     match bad {
         Bad::Unread(refusal) => tell(sink, refusal),
-        Bad::BadTrace { line, why } => say(sink, refused_line(line, why).bytes(), REFUSED),
+        Bad::BadTrace { line, why } => say(
+            sink,
+            refused_line(line, why).bytes(),
+            Exit::BadLine as u8,
+        ),
     }
 }

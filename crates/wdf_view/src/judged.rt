@@ -9,7 +9,7 @@ use crate::drawn::Drawn;
 use crate::read::plan_of_text;
 use crate::words::Form;
 use std::alloc::Global;
-use wdf_base::{Agent, Event, Memory, Plan, WaitLine};
+use wdf_base::{Agent, Memory, Plan};
 use wdf_core::Core;
 use wdf_dev::{AnyAgent, agents};
 use wdf_output::Refusal;
@@ -29,36 +29,15 @@ fn opening(alloc: Global, plan: Plan) -> Result<Core<AnyAgent>, Memory>
     Core::make(alloc, plan, agents)
 }
 
-/// The events of a run.
-fn events_of<A: Agent>(alloc: Global, core: &Core<A>) -> Result<Vec<Event>, Memory>
-    ensures { IfOk result (λ events. events.items ≡ core.now.journal) }
-{
-    let mut events = Vec::new(alloc);
-    for k in 0..core.journal_len() {
-        events.push(core.journal_at(k))?;
-    }
-    Ok(events)
-}
-
-/// The wait list of a run.
-fn waits_of<A: Agent>(alloc: Global, core: &Core<A>) -> Result<Vec<WaitLine>, Memory> {
-    let mut waits = Vec::new(alloc);
-    for k in 0..core.wait_len() {
-        waits.push(core.wait_at(k))?;
-    }
-    Ok(waits)
-}
-
 /// The picture of the run on a core.
 fn draw<A: Agent>(alloc: Global, form: Form, core: &Core<A>) -> Result<Drawn, Memory>
     ensures { IfOk result (λ drawn. IsFormed form (drawn_bytes drawn)) }
 {
-    let events = events_of(alloc, core)?;
-    let waits = waits_of(alloc, core)?;
+    let waits = core.wait_list(alloc)?;
     let _limit = core.plan().limit();
     let _events = core.journal_len();
     let told = Told {
-        events: events.as_slice(),
+        events: core.journal(),
         ending: core.ending(),
         waits: waits.as_slice(),
     };

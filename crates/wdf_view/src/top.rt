@@ -13,14 +13,12 @@ use crate::judged::draw_input;
 use crate::read::read_input;
 use crate::words::{Form, form_of};
 use std::alloc::Global;
+use wdf_exit::Exit;
 use wdf_io::{Sink, Source};
 use wdf_output::say;
 
 /// What is written for words of no form.
 const USAGE: &[u8] = b"usage: kmdfview html | perfetto\n";
-
-/// The status of words of no form.
-const USAGE_STATUS: u8 = 2;
 
 /// The picture of the whole input of a source.
 fn draw_source<S: Source>(alloc: Global, form: Form, source: &mut S) -> Result<Drawn, Bad>
@@ -43,7 +41,7 @@ fn show<S: Source, K: Sink>(alloc: Global, form: Form, source: &mut S, sink: &mu
     ensures not_again { result ≡ 13 → EndsRefused K.refused K.faults sink.old sink.new }
 {
     match draw_source(alloc, form, source) {
-        Ok(drawn) => say(sink, drawn.bytes(), 0),
+        Ok(drawn) => say(sink, drawn.bytes(), Exit::Fine as u8),
         Err(bad) => tell_bad(sink, bad),
     }
 }
@@ -63,6 +61,6 @@ pub fn view<S: Source, K: Sink>(alloc: Global, words: &[String], source: &mut S,
 {
     match form_of(words) {
         Some(form) => show(alloc, form, source, sink),
-        None => say(sink, USAGE, USAGE_STATUS),
+        None => say(sink, USAGE, Exit::Usage as u8),
     }
 }

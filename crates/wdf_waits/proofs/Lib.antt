@@ -1,3 +1,4 @@
 pub mod Sections
 pub mod Rows
 pub mod OnLines
+pub mod OnWalks

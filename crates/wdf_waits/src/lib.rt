@@ -3,8 +3,8 @@
 //!
 //! # Choices
 //!
-//! - **When is the wait list made?** When it is written: the top call asks the core for one line at a time, so that
-//!   it takes no memory. A run that isn't stuck has none.
+//! - **When is the wait list made?** When it is written: the top call goes along it line by line (`next_wait`), so that
+//!   it takes no memory, and each thing is looked at once. A run that isn't stuck has none.
 //! - **What does a line name whose callback finds no processor?** The cause `cpus`, and no frame: several processors
 //!   may be taken, each by another frame.
 //! - **Which step has a device's line?** The one whose callback runs, with the callback's frame as cause, also where
@@ -30,5 +30,7 @@ mod lines;
 mod objects;
 mod requests;
 mod section;
+mod walk;
 
-pub use lines::{wait_line_at, wait_lines_len};
+pub use lines::wait_lines_len;
+pub use walk::{WaitPlace, first_wait, next_wait};

@@ -32,16 +32,6 @@ pub(crate) enum Section {
     Asking,
 }
 
-/// The sections in their order.
-pub(crate) const SECTIONS: [Section; 6] = [
-    Section::Frames,
-    Section::Requests,
-    Section::Devices,
-    Section::Objects,
-    Section::Work,
-    Section::Asking,
-];
-
 /// Whether a request is open, and isn't about to be completed.
 fn has_request_line(request: &Request) -> bool
     ensures { result ≡ lines.has_request_line request.now }

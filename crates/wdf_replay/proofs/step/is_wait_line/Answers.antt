@@ -1,18 +1,26 @@
--- The text is compared with the line that the wait list has there.
+-- The text is compared with the line at the place, if one is left.
 use Rattle.std.proofs.Common.{arith}
-use Rattle.std.proofs.lemmas.Bool.{ltb-true}
+use Rattle.wdf_run_text.specs.Texts.{end_lines}
 use Rattle.wdf_run_text.specs.Lines.{fed}
-use Rattle.wdf_replay.proofs.RunLines.{no_wait_past}
-use Rattle.wdf_replay.proofs.Taken.{wait_there}
+use Rattle.wdf_replay.proofs.AfterEvents.{no_wait, wait_comes, wait_there, waits_left}
 use Rattle.wdf_replay.proofs.step.is_wait_line.Goals as goal
 
-pub returns-then-k-wait_len : goal.returns-then-k-wait_len
-returns-then-k-wait_len g c =
-    wait_there c.args.core.now.plan g.A.Agent.meaning c.args.core.now.journal c.args.k c.args.text.now c.wait_at.result c.plan.result.now c.is_line_of_wait.result
-    c.plan.ensures c.wait_at.ensures c.is_line_of_wait.ensures
+pub next_wait-wait-requires : goal.next_wait-wait-requires
+next_wait-wait-requires g c =
+    let left = waits_left c.args.core.now.plan g.A.Agent.meaning c.args.core.now.journal c.args.told c.requires.told c.requires.ended in
+    omega (arith, left.1, c.if-left-eq0.false)
 
-pub returns-else-k-wait_len : goal.returns-else-k-wait_len
-returns-else-k-wait_len g c = (
-  λ yes. absurd (let below = ltb-true c.args.k c.wait_len.result yes in omega (arith, below, c.if-k-wait_len.false)),
-  λ here. absurd (no_wait_past c.args.core.now.plan g.A.Agent.meaning c.args.core.now.journal c.args.k (fed c.args.text.now) (omega (arith, c.if-k-wait_len.false, c.wait_len.ensures)) here),
-)
+pub returns-then-left-eq0 : goal.returns-then-left-eq0
+returns-then-left-eq0 g c =
+    let left = waits_left c.args.core.now.plan g.A.Agent.meaning c.args.core.now.journal c.args.told c.requires.told c.requires.ended in (
+      λ yes. absurd (let z : ⊥ = cc in z),
+      λ here. absurd (no_wait c.args.core.now.plan g.A.Agent.meaning c.args.core.now.journal c.args.told (fed c.args.text.now) left c.if-left-eq0.true here),
+    )
+
+pub returns : goal.returns
+returns g c =
+    let left = waits_left c.args.core.now.plan g.A.Agent.meaning c.args.core.now.journal c.args.told c.requires.told c.requires.ended in
+    wait_there c.args.core.now.plan c.plan.result.now (end_lines c.args.core.now.plan g.A.Agent.meaning c.args.core.now.journal) c.args.told.lines c.args.text.now
+    c.next_wait-wait.result.0 c.is_line_of_wait.result c.plan.ensures
+    (wait_comes c.args.core.now.plan g.A.Agent.meaning c.args.core.now.journal c.args.told c.next_wait-wait.result.0 c.next_wait-wait.result.1 left c.next_wait-wait.ensures)
+    c.is_line_of_wait.ensures

@@ -1,17 +1,20 @@
--- The search finds what may come.
+-- The counts, and the search where they aren't known, find what may come.
 use Rattle.std.proofs.Common.{ap, length, ◌∙◌}
 use Rattle.wdf_core.proofs.Following.{settled_now}
 use Rattle.wdf_core.proofs.Journal.{agents_small, found, groups_small}
 use Rattle.wdf_core.proofs.machine.Core.allowed_len.Goals as goal
 
-pub allowed_len-requires-clause-agents : goal.allowed_len-requires-clause-agents
-allowed_len-requires-clause-agents g c = agents_small g.A.Agent.meaning c.self.inside.plan c.self.inside.journal.items c.self.inside.parts c.self.inside.groups.items _ c.self.invariant.way (rw (← c.self.view_is) at c.requires)
+pub len-requires-clause-agents : goal.len-requires-clause-agents
+len-requires-clause-agents g c = agents_small g.A.Agent.meaning c.self.inside.plan c.self.inside.journal.items c.self.inside.parts c.self.inside.groups.items _ c.self.invariant.way (rw (← c.self.view_is) at c.requires)
 
-pub allowed_len-requires-clause-few : goal.allowed_len-requires-clause-few
-allowed_len-requires-clause-few g c = rw c.deref.ensures.value (groups_small g.A.Agent.meaning c.self.inside.plan c.self.inside.journal.items c.self.inside.parts c.self.inside.groups.items _ c.self.invariant.way)
+pub len-requires-clause-settled : goal.len-requires-clause-settled
+len-requires-clause-settled g c = settled_now g.A.Agent.meaning c.self.inside.plan c.self.inside.journal.items c.self.inside.parts c.self.inside.groups.items _ c.self.invariant.way
 
-pub allowed_len-requires-clause-settled : goal.allowed_len-requires-clause-settled
-allowed_len-requires-clause-settled g c = settled_now g.A.Agent.meaning c.self.inside.plan c.self.inside.journal.items c.self.inside.parts c.self.inside.groups.items _ c.self.invariant.way
+pub len-requires-clause-few : goal.len-requires-clause-few
+len-requires-clause-few g c = rw c.deref.ensures.value (groups_small g.A.Agent.meaning c.self.inside.plan c.self.inside.journal.items c.self.inside.parts c.self.inside.groups.items _ c.self.invariant.way)
+
+pub len-requires-clause-kept : goal.len-requires-clause-kept
+len-requires-clause-kept g c = rw c.deref.ensures.value c.self.invariant.counts
 
 pub returns-clause-length : goal.returns-clause-length
-returns-clause-length g c = rw (← c.self.view_is) ((rw c.deref.ensures.value at c.allowed_len.ensures.length) ∙ ap length (found g.A.Agent.meaning c.self.inside.plan c.self.inside.journal.items c.self.inside.parts c.self.inside.groups.items _ c.self.invariant.way))
+returns-clause-length g c = rw (← c.self.view_is) ((rw c.deref.ensures.value at c.len.ensures.length) ∙ ap length (found g.A.Agent.meaning c.self.inside.plan c.self.inside.journal.items c.self.inside.parts c.self.inside.groups.items _ c.self.invariant.way))

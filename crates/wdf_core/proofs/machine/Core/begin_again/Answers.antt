@@ -3,6 +3,7 @@ use Rattle.std.proofs.Common.{sym, ap, ◌∙◌}
 use Rattle.wdf_model.specs.State.{opening_agents}
 use Rattle.wdf_core.specs.Course.{Course}
 use Rattle.wdf_core.proofs.Journal.{declared_few, opening_state, opens, sized}
+use Rattle.wdf_core.proofs.Keeping.{forgotten}
 use Rattle.wdf_core.proofs.machine.Core.begin_again.Goals as goal
 
 pub begin_again-requires-clause-objects : goal.begin_again-requires-clause-objects
@@ -17,7 +18,7 @@ begin_again-requires-clause-sized g c = sized g.A.Agent.meaning c.self.inside.pl
 pub invariant_of-self : goal.invariant_of-self
 invariant_of-self g c = record {
   way = rw (c.clear.ensures.items, c.clear.ensures.capacity) (opens g.A.Agent.meaning c.self.inside.plan c.begin_again.new.self c.self.inside.groups.items _ c.self.invariant.way.resolved (opening_state g.A.Agent.meaning c.self.inside.plan c.begin_again.new.self c.begin_again.ensures) c.self.invariant.way.groups c.self.invariant.way.room);
-  counts = c.self.invariant.counts;
+  counts = rw c.forget_all.ensures (forgotten g.A.Agent.meaning c.self.inside.plan c.self.inside.parts c.begin_again.new.self c.self.inside.groups.items c.self.inside.counts c.self.invariant.counts);
 }
 
 pub returns-clause-plan : goal.returns-clause-plan

@@ -1,7 +1,8 @@
 -- What the core keeps holds of no events, and the plan is as it was given.
-use Rattle.std.proofs.Common.{ap, sym, subst, ◌∙◌, arith}
+use Rattle.std.proofs.Common.{◌≡◌, length, ap, sym, subst, ◌∙◌, arith}
 use Rattle.wdf_base.specs.Resolved.{IsResolved}
 use Rattle.wdf_base.specs.declared.plan.Plan.{Plan}
+use Rattle.wdf_ready.specs.Counts.{Unknown}
 use Rattle.wdf_core.proofs.Journal.{opens}
 use Rattle.wdf_core.proofs.machine.Core.make.Goals as goal
 
@@ -25,5 +26,7 @@ returns-clause-plan g c = c.begun.ensures.plan ∙ c.in_ok-plan.ensures
 pub returns-clause-journal : goal.returns-clause-journal
 returns-clause-journal g c = c.begun.ensures.journal
 
-pub begun-requires-clause-room : goal.begun-requires-clause-room
-begun-requires-clause-room g c = omega (arith, c.in_ok-counts.ensures.exact)
+pub begun-requires-clause-counts : goal.begun-requires-clause-counts
+begun-requires-clause-counts g c =
+    let same : c.len.result ≡ length c.in_ok-groups.groups.items = omega (arith, c.len.ensures) in
+    subst (λ n. Unknown n c.in_ok-counts.counts) same c.in_ok-counts.ensures

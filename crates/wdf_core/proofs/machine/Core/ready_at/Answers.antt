@@ -4,8 +4,8 @@ use Rattle.wdf_model.specs.rules.Ready.{ready}
 use Rattle.wdf_core.proofs.Journal.{found_at, goes, tick_at}
 use Rattle.wdf_core.proofs.machine.Core.ready_at.Goals as goal
 
-pub allowed_at-requires : goal.allowed_at-requires
-allowed_at-requires g c =
+pub counted_at-requires : goal.counted_at-requires
+counted_at-requires g c =
     let below : c.args.k < length (ready c.self.inside.plan g.A.Agent.meaning c.self.inside.journal.items) = rw (← c.self.view_is) at c.requires in
     rw (← c.self.view_is) (goes g.A.Agent.meaning c.self.inside.plan c.self.inside.journal.items c.self.inside.parts c.self.inside.groups.items _ c.self.invariant.way (omega arith))
 

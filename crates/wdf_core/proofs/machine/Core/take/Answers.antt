@@ -1,6 +1,7 @@
 -- The event may come, there is room for it, and what the core keeps goes on.
 use Rattle.std.proofs.Common.{arith}
 use Rattle.wdf_core.proofs.Journal.{arrivals_fit, below, goes_by, next, next_doable, next_fits, number_fits}
+use Rattle.wdf_core.proofs.Keeping.{counts_go_on}
 use Rattle.wdf_core.proofs.machine.Core.take.Goals as goal
 
 pub step-requires-clause-number : goal.step-requires-clause-number
@@ -25,7 +26,7 @@ pub invariant_of-self : goal.invariant_of-self
 invariant_of-self g c =
     record {
       way = rw (c.push_reserved.ensures.items, c.push_reserved.ensures.capacity, c.step.ensures) (next g.A.Agent.meaning c.self.inside.plan c.self.inside.journal.items c.self.inside.parts c.self.inside.groups.items _ c.self.invariant.way c.requires.0 c.args.event (rw (← c.self.view_is) at c.requires.1));
-      counts = c.self.invariant.counts;
+      counts = rw (c.forget_touched.ensures, c.step.ensures) (counts_go_on g.A.Agent.meaning c.self.inside.plan c.self.inside.journal.items c.self.inside.parts c.self.inside.groups.items _ c.self.invariant.way c.requires.0 c.args.event (rw (← c.self.view_is) at c.requires.1) c.self.inside.counts c.self.invariant.counts);
     }
 
 pub returns-clause-room : goal.returns-clause-room

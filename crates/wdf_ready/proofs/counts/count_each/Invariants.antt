@@ -1,0 +1,13 @@
+-- The groups so far were passed, and their counts are there.
+use Rattle.std.proofs.Common.{◌*◌, ◌≤◌, ◌^◌, drop}
+use Rattle.wdf_ready.specs.Search.{events_of}
+use Rattle.wdf_ready.proofs.Counting.{IsCountedTo}
+use Rattle.wdf_ready.proofs.Passing.{Passed}
+use Rattle.wdf_ready.proofs.counts.count_each.Given as goal
+
+abbrev pub invariant-loop-at : goal.invariant-loop-at
+invariant-loop-at g l = record {
+  passed : Passed (events_of l.plan g.A.Agent.meaning l.parts l.all) (events_of l.plan g.A.Agent.meaning l.parts (drop l.at l.all)) l.sum;
+  few : l.sum ≤ l.at * 2 ^ 32;
+  counted : IsCountedTo l.plan g.A.Agent.meaning l.parts l.all l.stale l.each.items l.at;
+}
