@@ -1,13 +1,11 @@
 -- What is said of tables.
-use Rattle.std.proofs.Common.{ℕ, ◌≡◌, ◌⊎◌, inl, inr, List, refl}
+use Rattle.std.proofs.Common.{ℕ, inl, inr, List, refl}
 use Rattle.wdf_input.specs.declared.input.TheConstants.{INPUT_LIMIT}
 use Rattle.wdf_input.proofs.Taken.{all_within}
 use Rattle.wdf_output.specs.declared.refusal.Refusal.{Refusal}
 use Rattle.wdf_output.specs.declared.refusal.Refusal.TheVariants.{ReadFault, TooLarge, NoMemory, NoScene, NoPlan}
 use Rattle.wdf_output.specs.Refusals.{no_memory_line, read_fault_line, refusal_line, refusal_status, too_large_line}
 use Rattle.wdf_output.specs.Said.{Sinking, Says}
-use Rattle.wdf_sum.specs.declared.refused.Bad.{Bad}
-use Rattle.wdf_sum.specs.declared.refused.Bad.TheVariants.{AtLine}
 use Rattle.wdf_sum.specs.declared.refused.Why.{Why}
 use Rattle.wdf_sum.specs.Sums.{IsRefusedAt}
 use Rattle.wdf_top.specs.Top.{Sourcing, IsRead}

@@ -1,6 +1,5 @@
 -- What is said of a case that was read, and of what is none.
-use Rattle.std.proofs.Common.{ℕ, ◌≡◌, ◌⊎◌, inl, inr, List, Result, Ok, Err, None, refl, ap, subst, sym}
-use Rattle.wdf_scene.specs.declared.scene.Scene.{Scene}
+use Rattle.std.proofs.Common.{ℕ, ◌≡◌, inl, inr, List, Result, refl, ap, subst, sym}
 use Rattle.wdf_input.specs.declared.input.TheConstants.{INPUT_LIMIT}
 use Rattle.wdf_input.proofs.Taken.{all_within}
 use Rattle.wdf_output.specs.declared.refusal.Refusal.TheVariants.{NoMemory}
