@@ -14,7 +14,7 @@ next_wait-requires g c =
 pub returns-in-Err-clause-cut : goal.returns-in-Err-clause-cut
 returns-in-Err-clause-cut g c =
     let waits = wait_list c.args.core.now.plan g.A.Agent.meaning c.args.core.now.journal in
-    let here = item_at waits c.next_wait.result.1 c.loop-k._k c.next_wait.result.0 (sym c.loop-k.invariant.left ∙ c.next_wait.ensures) in
+    let here = item_at waits _ c.loop-k._k c.next_wait.result.0 (sym c.loop-k.invariant.left ∙ c.next_wait.ensures) in
     let at = waits_at c.args.core.now.plan waits c.next_wait.result.0 c.loop-k._k here in
     let cut = rw c.plan.ensures at c.in-Err.ensures.cut in
     cut_behind (g.K.Sink.written c.args.sink.now) (g.K.Sink.written c.loop-k.sink) (g.K.Sink.written c.write_wait.new.sink)

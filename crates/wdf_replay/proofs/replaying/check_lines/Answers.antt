@@ -10,9 +10,9 @@ use Rattle.wdf_replay.proofs.replaying.check_lines.Goals as goal
 pub loop-at-init : goal.loop-at-init
 loop-at-init g c = (
   refl,
-  subst (IsReplayedTo c.args.core.now.plan g.A.Agent.meaning c.args.trace.now 0 1 c.args.core.now.journal) (sym c.none_told.ensures)
+  subst (IsReplayedTo c.args.core.now.plan g.A.Agent.meaning c.args.trace.now 0 1 c.args.core.now.journal) (sym c.none_told-told.ensures)
       (replayed_opens c.args.core.now.plan g.A.Agent.meaning c.args.trace.now c.args.core.now.journal c.requires.fresh),
-  inl c.none_told.ensures,
+  inl c.none_told-told.ensures,
 )
 
 pub take_line-requires-clause-told : goal.take_line-requires-clause-told

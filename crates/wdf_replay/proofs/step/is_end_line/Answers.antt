@@ -8,7 +8,7 @@ use Rattle.wdf_replay.proofs.step.is_end_line.Goals.{in-Running, in_default}
 
 pub returns : goal.returns
 returns g c =
-    let none : c.args.told.lines ≡ 0 = omega (arith, c.if-lines-gt0.false) in
+    let none : c.args.told.lines ≡ 0 = omega (arith, c.if-told-gt0.false) in
     let over : ending_of c.args.core.now.plan g.A.Agent.meaning c.args.core.now.journal ≡ ending.Running → ⊥ = λ h.
     elim c.match-matches.branch [
       | in-Running w ↦ let z : ⊥ = cc (sym w.matches-is ∙ c.if-matches.false) in z
