@@ -1,6 +1,6 @@
 //! Laws over all runs on how they end: lines of a stuck run's wait list name a cause. Each does that is about a frame,
 //! a request in a queue or on its way out of one, a device, or queued work. What the laws of `law_stuck_named_if` ask of
-//! queues, of queued work and of steps is so at each place of every run of a resolved plan. Each plan is resolved.
+//! queues, of queued work and of steps is so at each place of every run of a resolved plan. Each law is about a resolved plan.
 #![tactic(auto)]
 
 ghost use Rattle.std.specs.Prelude.{◌≡◌, ℕ, true, false, List, Option, Some, is_some, slice_get, take};

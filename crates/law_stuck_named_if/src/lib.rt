@@ -1,5 +1,5 @@
 //! Laws over all runs on how they end: a line names a cause, where what the line is about may start. It is the line of
-//! a frame, of a request in a queue or on its way out of one, of a device or of queued work. Each plan is resolved, but in
+//! a frame, of a request in a queue or on its way out of one, of a device or of queued work. Each law is about a resolved plan, but for
 //! `parked_frames_wait` and `queued_work_items_name_a_cause`.
 #![tactic(auto)]
 

@@ -1,5 +1,5 @@
 //! Laws over all runs on how they end: the line of an object that is being deleted always names a cause, and so does each
-//! line of a stuck run's wait list that has causes. `cpus` means that the processors spin. Each plan is resolved, but in
+//! line of a stuck run's wait list that has causes. `cpus` means that the processors spin. Each law is about a resolved plan, but for
 //! `taken_processors_spin` and `objects_find_no_processor`.
 //!
 //! # Choices

@@ -78,7 +78,7 @@ fn both<R: Threads, F: FnMut() -> B + Send, B: Send, X, H: Fn(&mut [X])>(
     made
 }
 
-/// One call.
+/// Makes the call on the items.
 fn call_at<X, H: Fn(&mut [X])>(work: &H, items: &mut [X])
     requires { TakesItems H.Fn work.now items.old }
     ensures { ChangesItems H.Fn work.now items.old items.new }

@@ -1,4 +1,4 @@
-//! The generated scenario: a large valid input, of which a number picks the reads.
+//! The generated scenario: a large valid input whose reads a number picks.
 //!
 //! # Choices
 //!
