@@ -9,7 +9,6 @@ use Rattle.wdf_base.specs.declared.wait.WaitLine.{WaitLine}
 use Rattle.wdf_model.specs.rules.Ready.{ending_of}
 use Rattle.wdf_model.specs.rules.Waits.{wait_list}
 use Rattle.wdf_lines.specs.Endings.{wait_text}
-use Rattle.wdf_waits.specs.declared.walk.WaitPlace.{WaitPlace}
 use Rattle.wdf_core.specs.Walks.{waits_from}
 use Rattle.wdf_core.proofs.Walking.{item_at, rest_left}
 use Rattle.wdf_run_text.specs.Lines.{fed}
@@ -38,16 +37,16 @@ module _ {A : Type 0} (plan : Plan) (m : Meaning A) (run : List Event) where
       omega (arith, there, ap length left.0, length-drop told.lines (end_lines plan m run), length-map (waits_from plan m run told.place) (fed_wait plan))
 
   -- the line at the place is the next one
-  pub wait_comes : (told : Told) (wait : WaitLine) (next : WaitPlace) → IsLeft told → waits_from plan m run told.place ≡ wait ∷ waits_from plan m run next
+  pub wait_comes : (told : Told) (wait : WaitLine) (rest : List WaitLine) → IsLeft told → waits_from plan m run told.place ≡ wait ∷ rest
       → slice_get (end_lines plan m run) told.lines ≡ Some (fed_wait plan wait)
-  wait_comes told wait next left opens =
-      item_at (end_lines plan m run) (map (fed_wait plan) (waits_from plan m run next)) told.lines (fed_wait plan wait) (left.0 ∙ ap (map (fed_wait plan)) opens)
+  wait_comes told wait rest left opens =
+      item_at (end_lines plan m run) (map (fed_wait plan) rest) told.lines (fed_wait plan wait) (left.0 ∙ ap (map (fed_wait plan)) opens)
 
   -- and the others are left after it
-  pub waits_rest : (told : Told) (wait : WaitLine) (next : WaitPlace) → IsLeft told → waits_from plan m run told.place ≡ wait ∷ waits_from plan m run next
-      → (drop (told.lines + 1) (end_lines plan m run) ≡ map (fed_wait plan) (waits_from plan m run next)) × (length (waits_from plan m run next) ≡ told.left - 1)
-  waits_rest told wait next left opens = (
-    sym (rest_left (end_lines plan m run) (map (fed_wait plan) (waits_from plan m run next)) told.lines (fed_wait plan wait) (left.0 ∙ ap (map (fed_wait plan)) opens)),
+  pub waits_rest : (told : Told) (wait : WaitLine) (rest : List WaitLine) → IsLeft told → waits_from plan m run told.place ≡ wait ∷ rest
+      → (drop (told.lines + 1) (end_lines plan m run) ≡ map (fed_wait plan) rest) × (length rest ≡ told.left - 1)
+  waits_rest told wait rest left opens = (
+    sym (rest_left (end_lines plan m run) (map (fed_wait plan) rest) told.lines (fed_wait plan wait) (left.0 ∙ ap (map (fed_wait plan)) opens)),
     omega (arith, left.1, ap length opens),
   )
 

@@ -22,5 +22,5 @@ returns g c =
     let left = waits_left c.args.core.now.plan g.A.Agent.meaning c.args.core.now.journal c.args.told c.requires.told c.requires.ended in
     wait_there c.args.core.now.plan c.plan.result.now (end_lines c.args.core.now.plan g.A.Agent.meaning c.args.core.now.journal) c.args.told.lines c.args.text.now
     c.next_wait.result.0 c.is_line_of_wait.result c.plan.ensures
-    (wait_comes c.args.core.now.plan g.A.Agent.meaning c.args.core.now.journal c.args.told c.next_wait.result.0 c.next_wait.result.1 left c.next_wait.ensures)
+    (wait_comes c.args.core.now.plan g.A.Agent.meaning c.args.core.now.journal c.args.told c.next_wait.result.0 _ left c.next_wait.ensures)
     c.is_line_of_wait.ensures

@@ -10,5 +10,5 @@ next_wait-requires g c =
 
 pub returns-clause-told : goal.returns-clause-told
 returns-clause-told g c =
-    inr (waits_rest c.args.core.now.plan g.A.Agent.meaning c.args.core.now.journal c.args.told c.next_wait.result.0 c.next_wait.result.1
+    inr (waits_rest c.args.core.now.plan g.A.Agent.meaning c.args.core.now.journal c.args.told c.next_wait.result.0 _
     (waits_left c.args.core.now.plan g.A.Agent.meaning c.args.core.now.journal c.args.told c.requires.told c.requires.ended) c.next_wait.ensures)
