@@ -10,7 +10,7 @@ use Rattle.wdf_model.specs.rules.Ready.{ending_of}
 use Rattle.wdf_model.specs.rules.Waits.{wait_list}
 use Rattle.wdf_output.specs.Endings.{status_of}
 use Rattle.wdf_expect.specs.declared.rules.Expectation.{Expectation}
-use Rattle.wdf_expect.specs.Verdicts.{broken_text, first_broken, is_expected, is_whole, verdict_text}
+use Rattle.wdf_expect.specs.Verdicts.{first_broken, is_expected, is_whole, verdict_text}
 use Rattle.wdf_kinds.specs.Kinds.{fault_line, kind_text}
 use Rattle.wdf_table.specs.Lines.{kind_status}
 use Rattle.wdf_tries.specs.Tries.{kind_of}

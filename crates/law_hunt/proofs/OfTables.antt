@@ -1,5 +1,5 @@
 -- What the status of a table says of the tries that it counts.
-use Rattle.std.proofs.Common.{if◌then◌else◌, ℕ, suc, ◌≡◌, ◌≢◌, ◌⊎◌, inl, inr, ◌+◌, ◌<◌, ◌≤◌, ◌==◌, Bool, true, false, List, [], ◌∷◌, length, get_or, min, fold, count_by, Some, slice_get, refl, sym, ap, ◌∙◌, arith, nat_le}
+use Rattle.std.proofs.Common.{if◌then◌else◌, ℕ, suc, ◌≡◌, ◌≢◌, ◌⊎◌, inl, inr, ◌+◌, ◌<◌, ◌≤◌, ◌==◌, Bool, true, false, List, [], ◌∷◌, length, get_or, min, fold, count_by, Some, refl, sym, ap, ◌∙◌, arith, nat_le}
 use Rattle.std.specs.List.{All, Contains}
 use Rattle.std.proofs.lemmas.Bool.Decides.{nat_tests}
 use Rattle.std.proofs.lemmas.List.Elements.{All-nil, All-cons, Contains-get_or}

@@ -1,5 +1,5 @@
 -- The status of a run, by what is expected of it, and what a table's status says of the runs that it counts. (own)
-use Rattle.std.specs.Prelude.{ℕ, ◌≡◌, ◌≢◌, ◌+◌, ◌<◌, Bool, true, false, List, Option, Some, None}
+use Rattle.std.specs.Prelude.{ℕ, ◌≡◌, ◌+◌, ◌<◌, Bool, true, false, List, Option, Some, None}
 use Rattle.wdf_base.specs.declared.plan.Plan.{Plan}
 use Rattle.wdf_base.specs.declared.event.Event.{Event}
 use Rattle.wdf_base.specs.declared.event.Ending.{Ending}
@@ -12,8 +12,6 @@ use Rattle.wdf_output.specs.Endings.{status_of}
 use Rattle.wdf_expect.specs.declared.rules.Expectation.{Expectation}
 use Rattle.wdf_expect.specs.Verdicts.{first_broken, is_expected, is_whole}
 use Rattle.wdf_kinds.specs.Kinds.{fault_line}
-use Rattle.wdf_table.specs.declared.row.Row.{Row}
-use Rattle.wdf_table.specs.Lines.{table_status}
 use Rattle.wdf_tries.specs.declared.tried.Case.{Case}
 use Rattle.wdf_tries.specs.Tries.{scene_for}
 

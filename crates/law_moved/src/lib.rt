@@ -13,8 +13,7 @@ pub fn moved_scenes_are_refused_alike()
     ensures { (most : ℕ) (words : List ℕ) (scene : Scene) → first_refusal (moved_scene most words scene) ≡ first_refusal scene }
 {}
 
-/// A run of a moved scene has at most as many events as one of the scene, so a seed's words that move lines come after those that
-/// pick.
+/// The plan of a moved scene has the scene's limit of events, so a seed's words that move lines come after those that pick.
 pub fn moved_scenes_have_the_same_limit()
     ensures { (most : ℕ) (words : List ℕ) (scene : Scene) → (plan_of (moved_scene most words scene)).limit ≡ (plan_of scene).limit }
 {}
