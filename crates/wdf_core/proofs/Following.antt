@@ -1,23 +1,27 @@
 -- Whether one event may follow the events so far.
 use Rattle.std.proofs.Common.{if◌then◌else◌, ◌≡◌, ◌↔◌, ℕ, zero, suc, ◌+◌, Bool, true, false, List, [], ◌∷◌, length, slice_get, Some, sym, ap, refl, subst}
 use Rattle.std.specs.Prelude.{IsTrue}
+use Rattle.wdf_base.specs.Lives.{is_live}
 use Rattle.wdf_base.specs.Meaning.{Meaning}
+use Rattle.wdf_base.specs.declared.call.Callback.TheVariants as callback
 use Rattle.wdf_base.specs.declared.event.Event.{Event}
 use Rattle.wdf_base.specs.declared.event.Event.TheVariants as event
 use Rattle.wdf_base.specs.declared.plan.Plan.{Plan}
-use Rattle.wdf_model.specs.State.{State}
+use Rattle.wdf_model.specs.State.{State, declares_in}
 use Rattle.wdf_model.specs.declared.enums.Group.{Group}
+use Rattle.wdf_model.specs.parts.Tree.{life_of}
 use Rattle.wdf_model.specs.rules.Groups.{candidates}
 use Rattle.wdf_model.specs.rules.Ready.{allowed, or_tick, ready, state_after, waits_for_time}
 use Rattle.wdf_model.specs.rules.Steps.{may}
-use Rattle.wdf_model.proofs.Tests.{in_filter}
+use Rattle.wdf_model.proofs.Tests.{both_left, both_right, in_filter}
 use Rattle.law_machine_base.specs.OverRuns.{PlacesAgree}
 use Rattle.law_machine_lives.proofs.Keeping.{at_the_end, known_now}
 use Rattle.law_machine_once.specs.Owned.{StepsOwned}
 use Rattle.law_machine_once.proofs.Steps.{steps_owned_at_each}
 use Rattle.law_machine_places.specs.Placed.{IsAmong}
+use Rattle.law_stuck_named.proofs.Worked.{work_may_run}
 use Rattle.law_stuck_objects.proofs.Places.{nothing_there, request_done}
-use Rattle.wdf_ready.specs.Leaving.{DeletedSettled}
+use Rattle.wdf_ready.specs.Leaving.{IsSettled}
 use Rattle.wdf_core.specs.Course.{IsUnderWay}
 use Rattle.wdf_core.specs.Going.{goes_on, is_tick}
 use Rattle.wdf_core.proofs.Journal.{ready_going, ready_stopped}
@@ -44,11 +48,21 @@ module _ {A : Type 0} (m : Meaning A) (plan : Plan) (journal : List Event) (S : 
       subst (λ (T : State A). StepsOwned plan T) (sym u.state)
       (at_the_end plan m (λ (T : State A). StepsOwned plan T) journal (steps_owned_at_each plan m journal u.run (length journal)))
 
-  -- no request of an app is deleted that isn't completed, and nothing to which a request is sent
-  pub settled_now : DeletedSettled S
+  -- no request of an app is deleted that isn't completed, and nothing to which a request is sent; queued work is live and has
+  -- its callback
+  pub settled_now : IsSettled plan S
   settled_now =
-      subst (λ (T : State A). DeletedSettled T) (sym u.state)
-      (record { done = request_done plan m journal u.resolved u.run; nothing = nothing_there plan m journal u.resolved u.run })
+      let T : State A = state_after plan m journal in
+      let w = work_may_run plan m journal u.resolved u.run in
+      subst (λ (U : State A). IsSettled plan U) (sym u.state)
+      (record {
+        deleted = record {
+          done = request_done plan m journal u.resolved u.run;
+          nothing = nothing_there plan m journal u.resolved u.run;
+          works = λ o queued. both_left (is_live (life_of T.tree o)) (declares_in plan T callback.EvtWorkItem o) (w.items o queued);
+        };
+        declared = λ o queued. both_right (is_live (life_of T.tree o)) (declares_in plan T callback.EvtWorkItem o) (w.items o queued);
+      })
 
   -- ---- beside ticks
 

@@ -1,13 +1,18 @@
--- Cleanups and destructions by number: what keeps an object back is one of the busy ones, and what is offered of the places is
--- what may leave.
-use Rattle.std.proofs.Common.{if◌then◌else◌, ℕ, zero, suc, ◌≡◌, ◌⊎◌, ◌+◌, ◌-◌, ◌<◌, ◌≤◌, Bool, true, false, not, ◌&&◌, ◌||◌, List, [], ◌∷◌, filter, length, slice_get, Option, Some, None, MatchOption, is_some, option_map, refl, sym, ap, subst, ◌∙◌, inl, inr, arith}
+-- Cleanups, destructions and starts of work items by number: what keeps an object back is one of the busy ones, and what is
+-- offered of the places is what may leave.
+use Rattle.std.proofs.Common.{if◌then◌else◌, ℕ, zero, suc, ◌≡◌, ◌⊎◌, ◌+◌, ◌-◌, ◌<◌, ◌≤◌, Bool, true, false, not, ◌==◌, ◌&&◌, ◌||◌, List, [], ◌∷◌, ◌++◌, find, filter, length, slice_get, Option, Some, None, MatchOption, is_some, option_map, append_assoc, length-append, refl, sym, ap, subst, ◌∙◌, inl, inr, arith}
 use Rattle.std.specs.Prelude.{nat_le}
 use Rattle.std.specs.List.{cons_option, filter_map, list_all, list_any, range_with_len}
-use Rattle.std.proofs.lemmas.Bool.{cases_lt, leb-false, leb-true, or_parts}
+use Rattle.std.proofs.lemmas.Bool.{cases_lt, eqb-true, leb-false, leb-true, or_parts}
 use Rattle.wdf_base.specs.Meaning.{Meaning}
 use Rattle.wdf_base.specs.declared.call.Callback.{Callback}
 use Rattle.wdf_base.specs.declared.call.Callback.TheVariants as callback
+use Rattle.wdf_base.specs.declared.declared.ClassInfo.{ClassInfo}
+use Rattle.wdf_base.specs.declared.declared.ClassInfo.TheVariants as class
 use Rattle.wdf_base.specs.declared.declared.Declared.{Declared}
+use Rattle.wdf_base.specs.declared.declared.Declared.TheVariants as declared
+use Rattle.wdf_base.specs.declared.object.LockRef.{LockRef}
+use Rattle.wdf_base.specs.declared.rank.Rank.TheVariants as rank
 use Rattle.wdf_base.specs.declared.event.Event.{Event}
 use Rattle.wdf_base.specs.declared.event.Event.TheVariants as event
 use Rattle.wdf_base.specs.declared.ids.ObjectId.{ObjectId}
@@ -19,38 +24,48 @@ use Rattle.wdf_base.specs.declared.script.Script.{Script}
 use Rattle.wdf_base.specs.Lives.{is_asked, is_live, is_past_cleanup}
 use Rattle.wdf_base.specs.Places.{is_done, is_sent}
 use Rattle.wdf_base.specs.Plan.{is_script_of}
-use Rattle.wdf_base.specs.Same.{same_callback, same_kind}
+use Rattle.wdf_base.specs.Same.{same_callback, same_kind, same_lock}
 use Rattle.wdf_base.specs.SamePlan.{same_declared}
-use Rattle.wdf_model.specs.Plans.{script_on}
+use Rattle.wdf_model.specs.Ids.{cpu_of}
+use Rattle.wdf_model.specs.Plans.{script_on, serial_lock}
+use Rattle.wdf_model.specs.declared.entries.Held.{Held}
+use Rattle.wdf_model.specs.declared.entries.Node.{Node}
+use Rattle.wdf_model.specs.declared.enums.Group.TheVariants as group
 use Rattle.wdf_model.specs.Tables.{ids_of}
-use Rattle.wdf_model.specs.State.{State, declared_in, handle_in, nothing_at}
+use Rattle.wdf_model.specs.State.{State, declared_in, declares_in, handle_in, nothing_at}
 use Rattle.wdf_model.specs.declared.room.TheConstants.{OBJECTS}
-use Rattle.wdf_model.specs.parts.Cpus.{nobody_on}
+use Rattle.wdf_model.specs.parts.Cpus.{is_empty_cpu, nobody_on}
+use Rattle.wdf_model.specs.parts.Deferred.WorkItems.{is_work_queued}
+use Rattle.wdf_model.specs.parts.Locks.{Locks, is_free_hold, is_free_if_any, parent_lock}
 use Rattle.wdf_model.specs.parts.Requests.{place_of}
-use Rattle.wdf_model.specs.parts.Tree.{children, kind_of, life_of, may_clean, may_destroy, parent_of, started, younger_siblings}
-use Rattle.wdf_model.specs.rules.Groups.{is_declared_somewhere, places_in}
+use Rattle.wdf_model.specs.parts.Tree.{children, gone, kind_of, life_of, may_clean, may_destroy, parent_of, started, younger_siblings}
+use Rattle.wdf_model.specs.rules.Groups.{is_declared_somewhere, places_in, starts}
 use Rattle.wdf_model.specs.rules.Starts.{callback_over, clean_ready, destroy_ready, is_finished, is_unused}
-use Rattle.wdf_model.specs.rules.Steps.{may}
-use Rattle.wdf_model.proofs.Tests.{both_left}
+use Rattle.wdf_model.specs.rules.Steps.{is_cpu, may}
+use Rattle.wdf_model.proofs.Maps.{entry_past}
+use Rattle.wdf_model.proofs.Tests.{both_left, both_right, not_true, right_fails}
 use Rattle.wdf_cpu.specs.Occupied.{is_awaited, is_occupied}
 use Rattle.wdf_lock.specs.Holds.{is_locked}
 use Rattle.wdf_request.specs.Closing.{is_out}
 use Rattle.wdf_sets.specs.Nexts.{IsNext, NoneFrom}
 use Rattle.wdf_ready.specs.declared.leaving.Leaving.{Leaving}
 use Rattle.wdf_ready.specs.declared.leaving.Leaving.TheVariants as leaving
-use Rattle.wdf_ready.specs.Leaving.{DeletedSettled, callback_of, event_of, fits_tree, fitting, group_of, is_busy, is_kept, leavers, may_leave}
+use Rattle.wdf_ready.specs.Leaving.{DeletedSettled, IsSettled, event_of, fits_part, fitting, group_of, is_busy, is_kept, is_numbered, is_serial, is_unlocked, leavers, may_leave}
+use Rattle.wdf_defer.specs.WorkItems.{AreInOrder}
 use Rattle.wdf_ready.specs.Lesser.{lesser_of}
-use Rattle.wdf_ready.specs.Search.{NoneBefore, offered, offered_from}
+use Rattle.wdf_ready.specs.Search.{NoneBefore, if_allowed, offered, offered_from}
+use Rattle.wdf_ready.proofs.Begins.{start_parts}
 use Rattle.wdf_ready.proofs.Passing.{none_at}
 use Rattle.wdf_ready.proofs.Straight.{clean_up_parts, end_parts}
 
 -- ---- what may leave fits
 
-pub part : {A : Type 0} (l : Leaving) (S : State A) (o : ℕ) → may_leave l S o ≡ true → fits_tree l S o ≡ true
+pub part : {A : Type 0} (l : Leaving) (S : State A) (o : ℕ) → may_leave l S o ≡ true → fits_part l S o ≡ true
 part leaving.Cleanup S o h =
     both_left (may_clean S.tree o) (is_unused S o)
     (both_left (may_clean S.tree o && is_unused S o) (is_finished S o) (both_left (may_clean S.tree o && is_unused S o && is_finished S o) (nothing_at S o) h))
 part leaving.Destroy S o h = both_left (may_destroy S.tree o) (nobody_on S.cpus o) h
+part (leaving.Work cpu) S o h = both_left (is_work_queued S.work_items o) (nobody_on S.cpus o) h
 
 fewer : (p r : ℕ → Bool) → ((x : ℕ) → r x ≡ true → p x ≡ true) → (xs : List ℕ) → length (filter r xs) ≤ length (filter p xs)
 fewer p r passes [] = omega arith
@@ -64,7 +79,7 @@ fewer p r passes (x ∷ xs) = by (p x) (r x) refl refl (fewer p r passes xs)
 
 -- no more may leave than fit
 pub leavers_few : {A : Type 0} (l : Leaving) (S : State A) → length (leavers l S) ≤ length (fitting l S)
-leavers_few l S = fewer (fits_tree l S) (may_leave l S) (part l S) (ids_of S.tree.nodes)
+leavers_few l S = fewer (fits_part l S) (may_leave l S) (part l S) (ids_of S.tree.nodes)
 
 -- ---- what is kept back is busy
 
@@ -114,6 +129,7 @@ unbusy leaving.Cleanup S h o e =
     (λ is. h.done o is (dead S o on)))
     (λ on. h.nothing o (dead S o on))
 unbusy leaving.Destroy S h o e = ended_by (may_destroy S.tree o) (nobody_on S.cpus o) (not_off (nobody_on S.cpus o) e)
+unbusy (leaving.Work cpu) S h o e = ended_by (is_work_queued S.work_items o) (nobody_on S.cpus o) (not_off (nobody_on S.cpus o) e)
 
 -- ---- the first that is busy
 
@@ -231,38 +247,178 @@ and_left false b e = refl
 whole : (n : ℕ) → n - 0 ≡ n
 whole n = omega arith
 
+-- ---- queued work
+
+-- what is queued is an object
+none_by : {A : Type 0} (S : State A) (o : ℕ) (b : Bool) → DeletedSettled S → length S.tree.nodes ≤ o → is_work_queued S.work_items o ≡ b → b ≡ false
+none_by S o true h past e =
+    let off : is_live (life_of S.tree o) ≡ false = ap (λ (n : Node). is_live n.life) (entry_past gone S.tree.nodes o past) in
+    absurd (let on = h.works o e in let z : ⊥ = cc in z)
+none_by S o false h past e = refl
+
+pub none_beyond : {A : Type 0} (S : State A) → DeletedSettled S → (o : ℕ) → length S.tree.nodes ≤ o → is_work_queued S.work_items o ≡ false
+none_beyond S h o past = none_by S o (is_work_queued S.work_items o) h past refl
+
+none_held : (l : LockRef) (held : List Held) → (length held == 0) ≡ true → is_free_hold (find (λ h. same_lock h.lock l) held) ≡ true
+none_held l [] h = refl
+none_held l (x ∷ held) h = absurd (let none = eqb-true (length (x ∷ held)) 0 h in omega arith)
+
+free_unheld : (L : Locks) (l : Option LockRef) → (length L.held == 0) ≡ true → is_free_if_any L l ≡ true
+free_unheld L None h = refl
+free_unheld L (Some l) h = none_held l L.held h
+
+no_serial_lock : (plan : Plan) (x : ClassInfo) → is_serial x ≡ false → serial_lock plan (Some x) ≡ None
+no_serial_lock plan (class.Deferred name k parent true period) h = absurd (let z : ⊥ = cc in z)
+no_serial_lock plan (class.Deferred name k parent false period) h = refl
+no_serial_lock plan (class.Plain name k) h = refl
+
+no_serial_at : (plan : Plan) (classes : List ClassInfo) (c : ℕ) → list_any is_serial classes ≡ false → serial_lock plan (slice_get classes c) ≡ None
+no_serial_at plan [] c h = refl
+no_serial_at plan (x ∷ classes) zero h = no_serial_lock plan x (or_parts (is_serial x) (list_any is_serial classes) h).0
+no_serial_at plan (x ∷ classes) (suc c) h = no_serial_at plan classes c (or_parts (is_serial x) (list_any is_serial classes) h).1
+
+no_parent_lock : (plan : Plan) (d : Option Declared) → list_any is_serial plan.classes ≡ false → parent_lock plan d ≡ None
+no_parent_lock plan (Some (declared.OfClass c)) h = no_serial_at plan plan.classes c h
+no_parent_lock plan _ h = refl
+
+unlocked_by : {A : Type 0} (plan : Plan) (S : State A) (d : Option Declared) (unheld : Bool) → (length S.locks.held == 0) ≡ unheld → (unheld || not (list_any is_serial plan.classes)) ≡ true → is_free_if_any S.locks (parent_lock plan d) ≡ true
+unlocked_by plan S d true e h = free_unheld S.locks (parent_lock plan d) e
+unlocked_by plan S d false e h = ap (is_free_if_any S.locks) (no_parent_lock plan d (not_true (list_any is_serial plan.classes) h))
+
+-- where no lock keeps queued work back, that of its parent is free
+unlocked_free : {A : Type 0} (plan : Plan) (S : State A) (d : Option Declared) → is_unlocked plan S ≡ true → is_free_if_any S.locks (parent_lock plan d) ≡ true
+unlocked_free plan S d h = unlocked_by plan S d (length S.locks.held == 0) refl h
+
+-- what is queued has all the rest
+queued_only : (c d l v f q n : Bool) → c ≡ true → v ≡ true → f ≡ true → (q ≡ true → d ≡ true) → (q ≡ true → l ≡ true) → (c && (d && l && v && f && (q && n))) ≡ (q && n)
+queued_only c d l v f true n a b e g h = rw (a, g refl, h refl, b, e) refl
+queued_only c d l v f false n a b e g h = right_fails c (d && l && v && f && false) (right_fails (d && l && v && f) false refl)
+
+-- a list by its places
+at_end : (ys : List ℕ) (x : ℕ) (xs : List ℕ) → slice_get (ys ++ x ∷ xs) (length ys) ≡ Some x
+at_end [] x xs = refl
+at_end (y ∷ ys) x xs = at_end ys x xs
+
+listed : (f : Option ℕ → Option Event) (ys xs : List ℕ) → filter_map (λ k. f (slice_get (ys ++ xs) k)) (range_with_len (length ys) (length xs)) ≡ filter_map (λ o. f (Some o)) xs
+listed f ys [] = refl
+listed f ys (x ∷ xs) =
+    let one_more : length (ys ++ x ∷ []) ≡ length ys + 1 = length-append ys (x ∷ []) in
+    let whole_list : (ys ++ x ∷ []) ++ xs ≡ ys ++ x ∷ xs = append_assoc ys (x ∷ []) xs in
+    let rest = subst (λ n. filter_map (λ k. f (slice_get (ys ++ x ∷ xs) k)) (range_with_len n (length xs)) ≡ filter_map (λ o. f (Some o)) xs) one_more
+    (subst (λ zs. filter_map (λ k. f (slice_get zs k)) (range_with_len (length (ys ++ x ∷ [])) (length xs)) ≡ filter_map (λ o. f (Some o)) xs) whole_list (listed f (ys ++ x ∷ []) xs)) in
+    ap (λ o. cons_option (f o) (filter_map (λ k. f (slice_get (ys ++ x ∷ xs) k)) (range_with_len (length ys + 1) (length xs)))) (at_end ys x xs)
+    ∙ ap (cons_option (f (Some x))) rest
+
+-- of a list that passes a weaker test as many pass
+filter_by : (p r : ℕ → Bool) (x : ℕ) (xs : List ℕ) (b c : Bool) → p x ≡ b → r x ≡ c → (c ≡ true → b ≡ true) → filter r (filter p xs) ≡ filter r xs → filter r (if b then x ∷ filter p xs else filter p xs) ≡ (if c then x ∷ filter r xs else filter r xs)
+filter_by p r x xs true true e f h rest = rw f (ap (λ ys. x ∷ ys) rest)
+filter_by p r x xs true false e f h rest = rw f rest
+filter_by p r x xs false true e f h rest = absurd (let off = h refl in let z : ⊥ = cc in z)
+filter_by p r x xs false false e f h rest = rest
+
+filter_within : (p r : ℕ → Bool) → ((x : ℕ) → r x ≡ true → p x ≡ true) → (xs : List ℕ) → filter r (filter p xs) ≡ filter r xs
+filter_within p r h [] = refl
+filter_within p r h (x ∷ xs) = filter_by p r x xs (p x) (r x) refl refl (h x) (filter_within p r h xs)
+
 module _ {A : Type 0} (plan : Plan) (m : Meaning A) (S : State A) where
-  gives : (l : Leaving) → is_declared_somewhere plan (callback_of l) ≡ false → (o : ℕ) → offered plan m S (group_of l) o ≡ (if may_leave l S o then Some (event_of l (handle_in plan S o)) else None)
-  gives leaving.Cleanup h o =
+  gives_cleanup : is_declared_somewhere plan callback.EvtCleanupCallback ≡ false → (o : ℕ)
+      → offered plan m S group.Cleanups o ≡ (if may_leave leaving.Cleanup S o then Some (event_of leaving.Cleanup (handle_in plan S o)) else None)
+  gives_cleanup h o =
       let same : may plan m S (event.Cleanup (handle_in plan S o)) ≡ clean_ready S o
       = sym (and_left (clean_ready S o) (callback_over plan S callback.EvtCleanupCallback o) (over plan S callback.EvtCleanupCallback h o) ∙ clean_up_parts plan m S o) in
       ap (λ b. if b then Some (event.Cleanup (handle_in plan S o)) else None) same
-  gives leaving.Destroy h o =
+
+  gives_end : is_declared_somewhere plan callback.EvtDestroyCallback ≡ false → (o : ℕ)
+      → offered plan m S group.Destroys o ≡ (if may_leave leaving.Destroy S o then Some (event_of leaving.Destroy (handle_in plan S o)) else None)
+  gives_end h o =
       let same : may plan m S (event.Destroy (handle_in plan S o)) ≡ destroy_ready S o
       = sym (and_left (destroy_ready S o) (callback_over plan S callback.EvtDestroyCallback o) (over plan S callback.EvtDestroyCallback h o) ∙ end_parts plan m S o) in
       ap (λ b. if b then Some (event.Destroy (handle_in plan S o)) else None) same
 
-  places_are : (l : Leaving) → places_in plan S (group_of l) - 0 ≡ length S.tree.nodes
-  places_are leaving.Cleanup = whole (length S.tree.nodes)
-  places_are leaving.Destroy = whole (length S.tree.nodes)
+  -- where each id has a place, and it is offered where it may leave
+  module _ (l : Leaving) (places : places_in plan S (group_of l) ≡ length S.tree.nodes) (gives : (o : ℕ) → offered plan m S (group_of l) o ≡ (if may_leave l S o then Some (event_of l (handle_in plan S o)) else None)) where
+    places_left : places_in plan S (group_of l) - 0 ≡ length S.tree.nodes
+    places_left = whole (places_in plan S (group_of l)) ∙ places
+
+    counted_by : length (leavers l S) ≡ length (offered_from plan m S (group_of l) 0)
+    counted_by =
+        sym (ap (λ n. length (filter_map (offered plan m S (group_of l)) (range_with_len 0 n))) places_left
+        ∙ mapped_len (offered plan m S (group_of l)) (may_leave l S) (λ o. event_of l (handle_in plan S o)) gives (range_with_len 0 (length S.tree.nodes)))
+
+    found_by : (k : ℕ) → slice_get (offered_from plan m S (group_of l) 0) k ≡ option_map (λ o. event_of l (handle_in plan S o)) (slice_get (leavers l S) k)
+    found_by k =
+        ap (λ n. slice_get (filter_map (offered plan m S (group_of l)) (range_with_len 0 n)) k) places_left
+        ∙ mapped_at (offered plan m S (group_of l)) (may_leave l S) (λ o. event_of l (handle_in plan S o)) gives (range_with_len 0 (length S.tree.nodes)) k
+
+  -- ---- work items
+
+  module _ (cpu : ℕ) (numbered : is_numbered plan S (leaving.Work cpu) ≡ true) (settled : IsSettled plan S) (order : AreInOrder S.work_items) where
+    places_of_work : places_in plan S (group.Starts cpu rank.Work) - 0 ≡ length S.work_items.queued
+    places_of_work = whole (length S.work_items.queued)
+
+    -- the start of a queued work item may come where no frame is on it
+    start_comes : (o : ℕ) → may plan m S (starts plan S cpu callback.EvtWorkItem o) ≡ may_leave (leaving.Work cpu) S o
+    start_comes o =
+        let front = both_left (is_cpu plan (cpu_of cpu) && is_empty_cpu S.cpus cpu) (is_unlocked plan S) numbered in
+        sym (start_parts plan m S cpu callback.EvtWorkItem o)
+        ∙ queued_only (is_cpu plan (cpu_of cpu)) (declares_in plan S callback.EvtWorkItem o) (is_live (life_of S.tree o)) (is_empty_cpu S.cpus cpu)
+        (is_free_if_any S.locks (parent_lock plan (declared_in plan S o))) (is_work_queued S.work_items o) (nobody_on S.cpus o)
+        (both_left (is_cpu plan (cpu_of cpu)) (is_empty_cpu S.cpus cpu) front) (both_right (is_cpu plan (cpu_of cpu)) (is_empty_cpu S.cpus cpu) front)
+        (unlocked_free plan S (declared_in plan S o) (both_right (is_cpu plan (cpu_of cpu) && is_empty_cpu S.cpus cpu) (is_unlocked plan S) numbered))
+        (settled.declared o) (settled.deleted.works o)
+
+    abbrev work_at : ℕ → Option Event
+    work_at o = if may_leave (leaving.Work cpu) S o then Some (event_of (leaving.Work cpu) (handle_in plan S o)) else None
+
+    abbrev offered_work : Option ℕ → Option Event
+    offered_work o = if_allowed plan m S (option_map (λ x. starts plan S cpu callback.EvtWorkItem x) o)
+
+    is_work : (o : ℕ) → offered_work (Some o) ≡ work_at o
+    is_work o = ap (λ b. if b then Some (event_of (leaving.Work cpu) (handle_in plan S o)) else None) (start_comes o)
+
+    all_work : (xs : List ℕ) → filter_map (λ o. offered_work (Some o)) xs ≡ filter_map work_at xs
+    all_work [] = refl
+    all_work (x ∷ xs) = ap (λ e. cons_option e (filter_map (λ o. offered_work (Some o)) xs)) (is_work x) ∙ ap (cons_option (work_at x)) (all_work xs)
+
+    work_from : offered_from plan m S (group.Starts cpu rank.Work) 0 ≡ filter_map work_at S.work_items.queued
+    work_from =
+        ap (λ n. filter_map (offered plan m S (group.Starts cpu rank.Work)) (range_with_len 0 n)) places_of_work
+        ∙ listed offered_work [] S.work_items.queued ∙ all_work S.work_items.queued
+
+    leavers_queued : filter (may_leave (leaving.Work cpu) S) S.work_items.queued ≡ leavers (leaving.Work cpu) S
+    leavers_queued =
+        ap (filter (may_leave (leaving.Work cpu) S)) (order.rising (length S.tree.nodes) (none_beyond S settled.deleted))
+        ∙ filter_within (is_work_queued S.work_items) (may_leave (leaving.Work cpu) S) (part (leaving.Work cpu) S) (range_with_len 0 (length S.tree.nodes))
+
+    works_counted : length (leavers (leaving.Work cpu) S) ≡ length (offered_from plan m S (group.Starts cpu rank.Work) 0)
+    works_counted =
+        ap length (sym leavers_queued)
+        ∙ sym (ap length work_from ∙ mapped_len work_at (may_leave (leaving.Work cpu) S) (λ o. event_of (leaving.Work cpu) (handle_in plan S o)) (λ o. refl) S.work_items.queued)
+
+    work_found : (k : ℕ) → slice_get (offered_from plan m S (group.Starts cpu rank.Work) 0) k ≡ option_map (λ o. event_of (leaving.Work cpu) (handle_in plan S o)) (slice_get (leavers (leaving.Work cpu) S) k)
+    work_found k =
+        ap (λ es. slice_get es k) work_from
+        ∙ mapped_at work_at (may_leave (leaving.Work cpu) S) (λ o. event_of (leaving.Work cpu) (handle_in plan S o)) (λ o. refl) S.work_items.queued k
+        ∙ ap (λ xs. option_map (λ o. event_of (leaving.Work cpu) (handle_in plan S o)) (slice_get xs k)) leavers_queued
 
   -- as many may come as may leave
-  pub leavers_counted : (l : Leaving) → is_declared_somewhere plan (callback_of l) ≡ false → length (leavers l S) ≡ length (offered_from plan m S (group_of l) 0)
-  leavers_counted l h =
-      sym (ap (λ n. length (filter_map (offered plan m S (group_of l)) (range_with_len 0 n))) (places_are l)
-      ∙ mapped_len (offered plan m S (group_of l)) (may_leave l S) (λ o. event_of l (handle_in plan S o)) (gives l h) (range_with_len 0 (length S.tree.nodes)))
+  pub leavers_counted : (l : Leaving) → is_numbered plan S l ≡ true → IsSettled plan S → AreInOrder S.work_items → length (leavers l S) ≡ length (offered_from plan m S (group_of l) 0)
+  leavers_counted leaving.Cleanup n s i = counted_by leaving.Cleanup refl (gives_cleanup (not_true (is_declared_somewhere plan callback.EvtCleanupCallback) n))
+  leavers_counted leaving.Destroy n s i = counted_by leaving.Destroy refl (gives_end (not_true (is_declared_somewhere plan callback.EvtDestroyCallback) n))
+  leavers_counted (leaving.Work cpu) n s i = works_counted cpu n s i
 
   -- and the k-th is that of the k-th of these
-  leaver_at : (l : Leaving) → is_declared_somewhere plan (callback_of l) ≡ false → (k : ℕ) → slice_get (offered_from plan m S (group_of l) 0) k ≡ option_map (λ o. event_of l (handle_in plan S o)) (slice_get (leavers l S) k)
-  leaver_at l h k =
-      ap (λ n. slice_get (filter_map (offered plan m S (group_of l)) (range_with_len 0 n)) k) (places_are l)
-      ∙ mapped_at (offered plan m S (group_of l)) (may_leave l S) (λ o. event_of l (handle_in plan S o)) (gives l h) (range_with_len 0 (length S.tree.nodes)) k
+  leaver_at : (l : Leaving) → is_numbered plan S l ≡ true → IsSettled plan S → AreInOrder S.work_items → (k : ℕ)
+      → slice_get (offered_from plan m S (group_of l) 0) k ≡ option_map (λ o. event_of l (handle_in plan S o)) (slice_get (leavers l S) k)
+  leaver_at leaving.Cleanup n s i k = found_by leaving.Cleanup refl (gives_cleanup (not_true (is_declared_somewhere plan callback.EvtCleanupCallback) n)) k
+  leaver_at leaving.Destroy n s i k = found_by leaving.Destroy refl (gives_end (not_true (is_declared_somewhere plan callback.EvtDestroyCallback) n)) k
+  leaver_at (leaving.Work cpu) n s i k = work_found cpu n s i k
 
-  pub leaver_is : (l : Leaving) → is_declared_somewhere plan (callback_of l) ≡ false → (k : ℕ) (found : Option ObjectId) (o : ObjectId) → found ≡ Some o → option_map (λ (x : ObjectId). x.0) found ≡ slice_get (leavers l S) k
+  pub leaver_is : (l : Leaving) → is_numbered plan S l ≡ true → IsSettled plan S → AreInOrder S.work_items → (k : ℕ) (found : Option ObjectId) (o : ObjectId) → found ≡ Some o → option_map (λ (x : ObjectId). x.0) found ≡ slice_get (leavers l S) k
       → slice_get (offered_from plan m S (group_of l) 0) k ≡ Some (event_of l (handle_in plan S o.0))
-  leaver_is l h k found o is e =
+  leaver_is l n s i k found o is e =
       let at : slice_get (leavers l S) k ≡ Some o.0 = sym e ∙ ap (option_map (λ (x : ObjectId). x.0)) is in
-      leaver_at l h k ∙ ap (option_map (λ x. event_of l (handle_in plan S x))) at
+      leaver_at l n s i k ∙ ap (option_map (λ x. event_of l (handle_in plan S x))) at
 
 -- what is within a list is there
 pub leaver_there : {T : Type 0} (xs : List ℕ) (k : ℕ) (found : Option T) (f : T → ℕ) → k < length xs → option_map f found ≡ slice_get xs k → found ≡ None → ⊥

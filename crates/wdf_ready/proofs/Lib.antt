@@ -11,6 +11,7 @@ pub mod Straight
 pub mod Begins
 pub mod Counting
 pub mod Decided
+mod DueTimers
 pub mod Numbered
 pub mod Leavers
 pub mod SidesOfGroups

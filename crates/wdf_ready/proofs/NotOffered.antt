@@ -33,8 +33,9 @@ use Rattle.wdf_model.specs.declared.enums.Group.TheVariants as group
 use Rattle.wdf_model.specs.Plans.{callback_irql, declares, handler_for, is_managed, irql_of_level, queue_level, queue_of, typed_handler}
 use Rattle.wdf_model.specs.Tables.{contains, entry, first_of_list}
 use Rattle.wdf_model.specs.State.{State, declared_in, declares_in, handle_in, is_held_from, is_proper, nothing_at}
-use Rattle.wdf_model.specs.parts.Cpus.{Cpus, frame_of, irql, is_empty_cpu, level_of_top, stack_of}
+use Rattle.wdf_model.specs.parts.Cpus.{Cpus, frame_of, irql, is_empty_cpu, level_of_top, nobody_on, stack_of}
 use Rattle.wdf_model.specs.parts.Deferred.Dpcs.{dpc_head}
+use Rattle.wdf_model.specs.parts.Deferred.Timers.{timer_due}
 use Rattle.wdf_model.specs.parts.Locks.{is_free_if_any, lock_of_callback}
 use Rattle.wdf_model.specs.parts.Power.{stop_was_asked}
 use Rattle.wdf_model.specs.parts.Queues.{front}
@@ -56,7 +57,7 @@ use Rattle.wdf_model.specs.parts.Pnp.{steps_left}
 use Rattle.wdf_model.specs.parts.Queues.{is_free, waiting_in}
 use Rattle.wdf_model.specs.rules.Groups.{stage_of_step, start_of_step}
 use Rattle.wdf_model.specs.rules.Starts.{line_is_up, presents, rank_ready_for}
-use Rattle.wdf_ready.specs.Idle.{can_be_due, can_start_at, highest_level, is_due_at, is_idle, is_sending_due, is_too_high, settles_next}
+use Rattle.wdf_ready.specs.Idle.{can_be_due, can_start_at, highest_level, is_due_at, is_idle, is_sending_due, is_timer_due, is_too_high, settles_next}
 use Rattle.wdf_ready.specs.Search.{if_allowed, offered}
 
 -- ---- conjunctions
@@ -315,6 +316,10 @@ module _ {A : Type 0} (plan : Plan) (m : Meaning A) (S : State A) where
   no_step_by cpu d [] h = refl
   no_step_by cpu d (s ∷ left) h = absurd (let some = ltb-false 0 (length (s ∷ left)) h in omega arith)
 
+  no_timer_by : (cpu : ℕ) (o : Option Timed) → is_timer_due S o ≡ false → if_allowed plan m S (option_map (λ (t : Timed). starts plan S cpu callback.EvtTimerFunc t.timer.0) o) ≡ None
+  no_timer_by cpu None h = refl
+  no_timer_by cpu (Some t) h = not_ready cpu callback.EvtTimerFunc t.timer.0 None (left_fails (timer_due S.timers t.timer.0 S.clock) (nobody_on S.cpus t.timer.0) h)
+
   -- no callback starts where one part rules it out
   pub cannot_start : (cpu : ℕ) (r : Rank) (k : ℕ) → can_start_at S r k ≡ false → offered plan m S (group.Starts cpu r) k ≡ None
   cannot_start cpu rank.Isr k h =
@@ -325,6 +330,7 @@ module _ {A : Type 0} (plan : Plan) (m : Meaning A) (S : State A) where
       (not_ready cpu callback.EvtIoQueueState k None (left_fails (notify_due S.control k) (queue_delivers plan S k) h))
   cannot_start cpu rank.Handler k h = no_front_by cpu k (waiting_in S.queues k) h
   cannot_start cpu rank.Sequence k h = no_step_by cpu k (steps_left S.pnp k) h
+  cannot_start cpu rank.Timed k h = no_timer_by cpu (slice_get S.timers.queued k) h
   cannot_start cpu _ k h = absurd (let z : ⊥ = cc in z)
 
   no_stage_by : (d : ℕ) (left : List Step) → nat_lt 0 (length left) ≡ false → if_allowed plan m S (option_and_then (stage_of_step plan S d) (first_of_list left)) ≡ None

@@ -15,6 +15,7 @@ use Rattle.wdf_base.specs.Places.{is_returning_to}
 use Rattle.wdf_base.specs.Lives.{is_cleaned}
 use Rattle.wdf_model.specs.declared.entries.Request.{Request}
 use Rattle.wdf_model.specs.declared.entries.Sending.{Sending}
+use Rattle.wdf_model.specs.declared.entries.Timed.{Timed}
 use Rattle.wdf_model.specs.declared.enums.Group.{Group}
 use Rattle.wdf_model.specs.declared.enums.Group.TheVariants as group
 use Rattle.wdf_model.specs.Plans.{callback_irql, is_managed}
@@ -22,6 +23,7 @@ use Rattle.wdf_model.specs.State.{State}
 use Rattle.wdf_model.specs.Tables.{ids_of}
 use Rattle.wdf_model.specs.parts.Cpus.{is_empty_cpu}
 use Rattle.wdf_model.specs.parts.Control.{notify_due}
+use Rattle.wdf_model.specs.parts.Deferred.Timers.{timer_due}
 use Rattle.wdf_model.specs.parts.Interrupts.{is_enabled}
 use Rattle.wdf_model.specs.parts.Pnp.{next_step, steps_left}
 use Rattle.wdf_model.specs.parts.Queues.{is_empty_queue, is_free}
@@ -56,13 +58,20 @@ settles_next S d = same_option same_step (next_step S.pnp d) (Some (step.Pass st
 abbrev pub is_stopping : {A : Type 0} → Plan → State A → ℕ → Bool
 is_stopping plan S q = is_managed plan q && settles_next S (nearest_device S.tree q)
 
--- a callback of a rank can start on an object, as one part says: of a service routine the interrupt is enabled, a
--- notification is due, for a handler a request waits and the queue is free, a step is left
+-- the due tick of the timer at a place, if there is one, is reached
+abbrev pub is_timer_due : {A : Type 0} → State A → Option Timed → Bool
+is_timer_due S None = false
+is_timer_due S (Some t) = timer_due S.timers t.timer.0 S.clock
+
+-- a callback of a rank can start at a place, as one part says: of a service routine the interrupt is enabled, a
+-- notification is due, for a handler a request waits and the queue is free, a step is left; of the queued timer at the
+-- place the due tick is reached
 abbrev pub can_start_at : {A : Type 0} → State A → Rank → ℕ → Bool
 can_start_at S rank.Isr i = is_enabled S.interrupts i
 can_start_at S rank.QueueState q = notify_due S.control q
 can_start_at S rank.Handler q = not (is_empty_queue S.queues q) && is_free S.queues q
 can_start_at S rank.Sequence d = nat_lt 0 (length (steps_left S.pnp d))
+can_start_at S rank.Timed k = is_timer_due S (slice_get S.timers.queued k)
 can_start_at S _ o = true
 
 -- a callback of a rank for requests can be due on an object

@@ -1,71 +1,104 @@
--- How objects leave, by a cleanup or by their end: which may by the tree alone, what keeps others back, and which may. (own)
-use Rattle.std.specs.Prelude.{ℕ, ◌≡◌, Bool, true, false, not, ◌&&◌, ◌||◌, List, filter}
-use Rattle.wdf_base.specs.declared.call.Callback.{Callback}
+-- How objects leave, by a cleanup or by their end, and how a work item leaves its queue, as its callback starts: which may by
+-- one part alone, what keeps others back, and which may. (own)
+use Rattle.std.specs.Prelude.{ℕ, ◌≡◌, Bool, true, false, not, ◌==◌, ◌&&◌, ◌||◌, List, None, filter, length}
+use Rattle.std.specs.List.{list_any}
 use Rattle.wdf_base.specs.declared.call.Callback.TheVariants as callback
 use Rattle.wdf_base.specs.declared.event.Event.{Event}
 use Rattle.wdf_base.specs.declared.event.Event.TheVariants as event
+use Rattle.wdf_base.specs.declared.declared.ClassInfo.{ClassInfo}
+use Rattle.wdf_base.specs.declared.declared.ClassInfo.TheVariants as class
 use Rattle.wdf_base.specs.declared.ids.Handle.{Handle}
 use Rattle.wdf_base.specs.declared.object.Kind.TheVariants as kind
+use Rattle.wdf_base.specs.declared.plan.Plan.{Plan}
+use Rattle.wdf_base.specs.declared.rank.Rank.TheVariants as rank
 use Rattle.wdf_base.specs.Same.{same_kind}
 use Rattle.wdf_base.specs.Lives.{is_live}
 use Rattle.wdf_base.specs.Places.{is_done}
 use Rattle.wdf_model.specs.Tables.{ids_of}
 use Rattle.wdf_model.specs.declared.enums.Group.{Group}
 use Rattle.wdf_model.specs.declared.enums.Group.TheVariants as group
-use Rattle.wdf_model.specs.State.{State, nothing_at}
+use Rattle.wdf_model.specs.Ids.{cpu_of}
+use Rattle.wdf_model.specs.State.{State, declares_in, nothing_at}
+use Rattle.wdf_model.specs.parts.Cpus.{is_empty_cpu, nobody_on}
+use Rattle.wdf_model.specs.parts.Deferred.WorkItems.{is_work_queued}
 use Rattle.wdf_model.specs.parts.Tree.{kind_of, life_of, may_clean, may_destroy}
 use Rattle.wdf_model.specs.parts.Requests.{place_of}
+use Rattle.wdf_model.specs.rules.Groups.{is_declared_somewhere}
 use Rattle.wdf_model.specs.rules.Starts.{clean_ready, destroy_ready}
+use Rattle.wdf_model.specs.rules.Steps.{is_cpu}
 use Rattle.wdf_cpu.specs.Occupied.{is_awaited, is_occupied}
 use Rattle.wdf_lock.specs.Holds.{is_locked}
 use Rattle.wdf_request.specs.Closing.{is_out}
 use Rattle.wdf_ready.specs.declared.leaving.Leaving.{Leaving}
 use Rattle.wdf_ready.specs.declared.leaving.Leaving.TheVariants as leaving
 
--- the callback that comes before it, where the object declares it
-abbrev pub callback_of : Leaving → Callback
-callback_of leaving.Cleanup = callback.EvtCleanupCallback
-callback_of leaving.Destroy = callback.EvtDestroyCallback
-
 -- the group of its candidates
 abbrev pub group_of : Leaving → Group
 group_of leaving.Cleanup = group.Cleanups
 group_of leaving.Destroy = group.Destroys
+group_of (leaving.Work cpu) = group.Starts cpu rank.Work
 
 -- its event
 abbrev pub event_of : Leaving → Handle → Event
 event_of leaving.Cleanup o = event.Cleanup o
 event_of leaving.Destroy o = event.Destroy o
+event_of (leaving.Work cpu) o = event.Start (cpu_of cpu) callback.EvtWorkItem o None
 
--- object o may leave so, by the tree alone
-abbrev pub fits_tree : {A : Type 0} → Leaving → State A → ℕ → Bool
-fits_tree leaving.Cleanup S o = may_clean S.tree o
-fits_tree leaving.Destroy S o = may_destroy S.tree o
+-- object o may leave so by one part alone: by the tree, or as it is queued
+abbrev pub fits_part : {A : Type 0} → Leaving → State A → ℕ → Bool
+fits_part leaving.Cleanup S o = may_clean S.tree o
+fits_part leaving.Destroy S o = may_destroy S.tree o
+fits_part (leaving.Work cpu) S o = is_work_queued S.work_items o
 
 -- object o may leave so, its callback aside
 abbrev pub may_leave : {A : Type 0} → Leaving → State A → ℕ → Bool
 may_leave leaving.Cleanup S o = clean_ready S o
 may_leave leaving.Destroy S o = destroy_ready S o
+may_leave (leaving.Work cpu) S o = is_work_queued S.work_items o && nobody_on S.cpus o
 
 -- the objects that may, by rising id
 abbrev pub leavers : {A : Type 0} → Leaving → State A → List ℕ
 leavers l S = filter (may_leave l S) (ids_of S.tree.nodes)
 
--- those that may by the tree alone
+-- those that may by one part alone
 abbrev pub fitting : {A : Type 0} → Leaving → State A → List ℕ
-fitting l S = filter (fits_tree l S) (ids_of S.tree.nodes)
+fitting l S = filter (fits_part l S) (ids_of S.tree.nodes)
 
--- what can keep object o back beside the tree: a frame that is on it, one that waits for it, its lock that is held; or it
--- is a request that is sent. Only a frame that is on it keeps it from its end.
+-- what can keep object o back beside that part: a frame that is on it, one that waits for it, its lock that is held; or it
+-- is a request that is sent. Only a frame that is on it keeps it from its end, or a work item in its queue.
 abbrev pub is_busy : {A : Type 0} → Leaving → State A → ℕ → Bool
 is_busy leaving.Cleanup S o = (is_occupied S.cpus o || is_awaited S.cpus o) || (is_locked S.locks o || is_out S.requests o)
 is_busy leaving.Destroy S o = is_occupied S.cpus o
+is_busy (leaving.Work cpu) S o = is_occupied S.cpus o
 
--- object o may leave so by the tree alone, and something else keeps it back
+-- object o may leave so by one part alone, and something else keeps it back
 abbrev pub is_kept : {A : Type 0} → Leaving → State A → ℕ → Bool
-is_kept l S o = fits_tree l S o && not (may_leave l S o)
+is_kept l S o = fits_part l S o && not (may_leave l S o)
 
--- No request of an app is deleted that isn't completed, and nothing to which a request is sent: each state of a run is so.
+-- a class says that its objects are serialized
+abbrev pub is_serial : ClassInfo → Bool
+is_serial (class.Deferred name k parent serialize period) = serialize
+is_serial (class.Plain name k) = false
+
+-- no lock keeps queued work back: none is held, or no class is serialized
+abbrev pub is_unlocked : {A : Type 0} → Plan → State A → Bool
+is_unlocked plan S = length S.locks.held == 0 || not (list_any is_serial plan.classes)
+
+-- those that may leave so are counted without a look at each: nothing declares their callback; of work items, one may start
+-- on the processor, and no lock keeps one back
+abbrev pub is_numbered : {A : Type 0} → Plan → State A → Leaving → Bool
+is_numbered plan S leaving.Cleanup = not (is_declared_somewhere plan callback.EvtCleanupCallback)
+is_numbered plan S leaving.Destroy = not (is_declared_somewhere plan callback.EvtDestroyCallback)
+is_numbered plan S (leaving.Work cpu) = is_cpu plan (cpu_of cpu) && is_empty_cpu S.cpus cpu && is_unlocked plan S
+
+-- No request of an app is deleted that isn't completed, and nothing to which a request is sent; and queued work is live:
+-- each state of a run is so.
 pub record DeletedSettled {A : Type 0} (S : State A) : Type 0 where
   pub done : (r : ℕ) → same_kind (kind_of S.tree r) kind.Request ≡ true → is_live (life_of S.tree r) ≡ false → is_done (place_of S.requests r) ≡ true
   pub nothing : (o : ℕ) → is_live (life_of S.tree o) ≡ false → nothing_at S o ≡ true
+  pub works : (o : ℕ) → is_work_queued S.work_items o ≡ true → is_live (life_of S.tree o) ≡ true
+
+-- The same, and queued work has its callback.
+pub record IsSettled {A : Type 0} (plan : Plan) (S : State A) : Type 0 where
+  pub deleted : DeletedSettled S
+  pub declared : (o : ℕ) → is_work_queued S.work_items o ≡ true → declares_in plan S callback.EvtWorkItem o ≡ true

@@ -102,7 +102,7 @@ fn has_start<A: Agent>(
     }
 }
 
-/// Whether a start for a request has one.
+/// Whether a start for a request has a place among the candidates.
 fn has_start_for<A: Agent>(
     plan: &IndexedPlan,
     parts: &Parts<A>,
@@ -122,7 +122,7 @@ fn has_start_for<A: Agent>(
     }
 }
 
-/// Whether a start has one.
+/// Whether a start has a place among the candidates.
 fn starts_somewhere<A: Agent>(
     plan: &IndexedPlan,
     parts: &Parts<A>,

@@ -1,6 +1,6 @@
 //! The event that a pick names: the events of each group are counted once, and only one group is searched again.
 ghost use Rattle.std.specs.Prelude.{◌≡◌, ◌<◌, ◌≤◌, ◌^◌, ◌%◌, [], Some, MatchOption, length, map, slice_get, vec_capacity};
-ghost use Rattle.wdf_ready.specs.Leaving.{DeletedSettled};
+ghost use Rattle.wdf_ready.specs.Leaving.{IsSettled};
 ghost use Rattle.wdf_ready.specs.Search as search;
 
 use crate::search::{offered_at, offered_len};
@@ -17,7 +17,7 @@ fn count_each<A: Agent>(
     counts: &mut Vec<usize>,
 ) -> usize
     requires agents { length parts.now.agents ≤ 2 ^ 16 }
-    requires settled { DeletedSettled parts.now }
+    requires settled { IsSettled plan.now parts.now }
     requires few { length all.now < 2 ^ 20 }
     requires room { length all.now ≤ vec_capacity counts.old }
     ensures length { result ≡ length (search.events_of plan.now A.meaning parts.now all.now) }
@@ -45,7 +45,7 @@ fn counted_at<A: Agent>(
     k: usize,
 ) -> Option<Event>
     requires agents { length parts.now.agents ≤ 2 ^ 16 }
-    requires settled { DeletedSettled parts.now }
+    requires settled { IsSettled plan.now parts.now }
     requires each { counts.now ≡ map (search.offered_len plan.now A.meaning parts.now) all.now }
     ensures { result ≡ slice_get (search.events_of plan.now A.meaning parts.now all.now) k }
 {
@@ -77,7 +77,7 @@ pub fn picked<A: Agent>(
     pick: u64,
 ) -> Option<Event>
     requires agents { length parts.now.agents ≤ 2 ^ 16 }
-    requires settled { DeletedSettled parts.now }
+    requires settled { IsSettled plan.now parts.now }
     requires few { length all.now < 2 ^ 20 }
     requires room { length all.now ≤ vec_capacity counts.old }
     ensures picked { MatchOption result (search.events_of plan.now A.meaning parts.now all.now ≡ [])

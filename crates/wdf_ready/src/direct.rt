@@ -1,4 +1,4 @@
-//! What a place offers where the candidate's own parts say that it may come, and completions by their number.
+//! Cleanups, ends, own events and completions, tested by the parts that decide and not by `may`.
 ghost use Rattle.std.specs.Prelude.{◌≡◌, ◌+◌, ◌≤◌, ◌^◌, ◌&&◌, Some, is_some, length, not, slice_get, MatchResult};
 ghost use Rattle.wdf_base.specs.declared.event.Event.TheVariants as event;
 ghost use Rattle.wdf_model.specs.State as state;

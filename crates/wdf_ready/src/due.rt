@@ -76,7 +76,7 @@ fn next_cancel<A: Agent>(
     None
 }
 
-/// The same for a callback of any rank. It asks each request.
+/// The same for a callback of any rank: it asks each place.
 fn next_of_all<A: Agent>(
     plan: &IndexedPlan,
     parts: &Parts<A>,
@@ -118,7 +118,19 @@ pub(crate) fn next_due<A: Agent>(
     }
 }
 
-/// Whether a callback of a rank can start on an object, as one part says.
+/// Whether the due tick of the queued timer at a place is reached.
+fn is_timer_due<A: Agent>(parts: &Parts<A>, place: u32) -> bool
+    ensures { result ≡ idle.can_start_at parts.now rank.Timed place }
+{
+    if place >= parts.timers().len() {
+        return false;
+    }
+    parts
+        .timers()
+        .timer_due(parts.timers().at(place).timer, parts.now())
+}
+
+/// Whether a callback of a rank can start at a place, as one part says.
 fn can_start_at<A: Agent>(parts: &Parts<A>, rank: Rank, o: ObjectId) -> bool
     ensures { result ≡ idle.can_start_at parts.now rank o.0 }
 {
@@ -127,8 +139,45 @@ fn can_start_at<A: Agent>(parts: &Parts<A>, rank: Rank, o: ObjectId) -> bool
         Rank::QueueState => parts.control().notify_due(o),
         Rank::Handler => !parts.queues().is_empty(o) && parts.queues().is_free(o),
         Rank::Sequence => parts.pnp().steps_left(o) > 0,
+        Rank::Timed => is_timer_due(parts, o.0),
         _ => true,
     }
+}
+
+/// The first place from one on below an end of a queued timer whose due tick is reached. It looks at the timers of 64 ids
+/// together.
+fn next_timer<A: Agent>(parts: &Parts<A>, from: usize, end: usize) -> Option<usize>
+    requires small { end ≤ 2 ^ 32 }
+    ensures { MatchOption result (NoneFrom (idle.can_start_at parts.now rank.Timed) from end)
+        (λ place. IsNext (idle.can_start_at parts.now rank.Timed) from end place) }
+{
+    if from >= end {
+        return None;
+    }
+    match parts.timers().next_due(from as u32, parts.now()) {
+        Some(place) => {
+            if (place as usize) < end {
+                Some(place as usize)
+            } else {
+                None
+            }
+        }
+        None => None,
+    }
+}
+
+/// The same for a callback of any rank: it asks each place.
+fn next_by_one<A: Agent>(parts: &Parts<A>, rank: Rank, from: usize, end: usize) -> Option<usize>
+    requires small { end ≤ 2 ^ 32 }
+    ensures { MatchOption result (NoneFrom (idle.can_start_at parts.now rank) from end)
+        (λ place. IsNext (idle.can_start_at parts.now rank) from end place) }
+{
+    for place in from..end {
+        if can_start_at(parts, rank, ObjectId(place as u32)) {
+            return Some(place);
+        }
+    }
+    None
 }
 
 /// The first place from one on below an end at which a callback of a rank can start.
@@ -142,10 +191,8 @@ pub(crate) fn next_startable<A: Agent>(
     ensures { MatchOption result (NoneFrom (idle.can_start_at parts.now rank) from end)
         (λ place. IsNext (idle.can_start_at parts.now rank) from end place) }
 {
-    for place in from..end {
-        if can_start_at(parts, rank, ObjectId(place as u32)) {
-            return Some(place);
-        }
+    match rank {
+        Rank::Timed => next_timer(parts, from, end),
+        _ => next_by_one(parts, rank, from, end),
     }
-    None
 }

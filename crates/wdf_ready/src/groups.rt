@@ -185,6 +185,7 @@ fn push_for_queues(
     Ok(())
 }
 
+/// Pushes a group.
 fn push(made: &mut Vec<Group>, group: Group) -> Result<(), Memory>
     ensures { OnOk result (made.new.items ≡ made.old.items ++ group ∷ []) }
 {

@@ -1,16 +1,20 @@
-//! Cleanups and destructions by their number, where nothing declares a callback for them: those that may come by the
-//! tree alone are counted, and the few that something else keeps back are taken away.
-ghost use Rattle.std.specs.Prelude.{◌≡◌, ◌+◌, ◌<◌, ◌≤◌, ◌^◌, false, filter, length, option_map, slice_get, MatchOption, MatchResult};
-ghost use Rattle.std.specs.List.{range_with_len};
+//! Cleanups and destructions by their number, where nothing declares a callback for them, and starts of work items, where
+//! no lock keeps one back: those that may come by one part alone are counted, and the few that something else keeps back
+//! are taken away.
+ghost use Rattle.std.specs.Prelude.{◌≡◌, ◌+◌, ◌<◌, ◌≤◌, ◌^◌, ◌&&◌, true, filter, length, option_map, slice_get, MatchOption, MatchResult};
+ghost use Rattle.std.specs.List.{list_any, range_with_len};
 ghost use Rattle.wdf_model.specs.declared.room.TheConstants.{OBJECTS};
-ghost use Rattle.wdf_model.specs.rules.Groups as groups;
+ghost use Rattle.wdf_model.specs.parts.Cpus.{nobody_on};
+ghost use Rattle.wdf_model.specs.parts.Deferred.WorkItems.{is_work_queued};
 ghost use Rattle.wdf_sets.specs.Nexts.{IsNext, NoneFrom};
-ghost use Rattle.wdf_ready.specs.Leaving.{DeletedSettled, callback_of, event_of, fits_tree, fitting, group_of, is_busy, is_kept, leavers, may_leave};
+ghost use Rattle.wdf_ready.specs.Leaving.{DeletedSettled, IsSettled, event_of, fits_part, fitting, group_of, is_busy, is_kept, is_numbered, is_serial, is_unlocked, leavers, may_leave};
 ghost use Rattle.wdf_ready.specs.Lesser.{lesser_of};
 ghost use Rattle.wdf_ready.specs.declared.leaving.Leaving.TheVariants as how;
 ghost use Rattle.wdf_ready.specs.Search as search;
 
-use wdf_base::{Agent, Callback, Event, Handle, ObjectId};
+use crate::candidates::is_declared_somewhere;
+use crate::started::is_cpu;
+use wdf_base::{Agent, Callback, ClassInfo, Cpu, Event, Handle, ObjectId, Rank};
 use wdf_model::Group;
 use wdf_parts::Parts;
 use wdf_plan_index::IndexedPlan;
@@ -23,6 +27,8 @@ pub(crate) enum Leaving {
     Cleanup,
     /// It is destroyed.
     Destroy,
+    /// It is a work item, and leaves its queue, since its callback starts on a processor.
+    Work { cpu: u8 },
 }
 
 /// The one with the lesser id of two objects, each as far as it is there.
@@ -37,7 +43,7 @@ fn lesser(one: Option<ObjectId>, other: Option<ObjectId>) -> Option<ObjectId>
 }
 
 /// The first object from an id on that something beside lives can keep from its cleanup.
-fn next_busy<A: Agent>(parts: &Parts<A>, from: ObjectId) -> Option<ObjectId>
+fn next_busy_for_cleanup<A: Agent>(parts: &Parts<A>, from: ObjectId) -> Option<ObjectId>
     ensures { MatchOption result (NoneFrom (is_busy how.Cleanup parts.now) from.0 OBJECTS) (λ o. IsNext (is_busy how.Cleanup parts.now) from.0 OBJECTS o.0) }
 {
     let framed = lesser(
@@ -51,14 +57,63 @@ fn next_busy<A: Agent>(parts: &Parts<A>, from: ObjectId) -> Option<ObjectId>
     lesser(framed, held)
 }
 
+/// Whether a work item is queued, and no frame is on it.
+fn may_leave_queue<A: Agent>(parts: &Parts<A>, o: ObjectId) -> bool
+    ensures { result ≡ (is_work_queued parts.now.work_items o.0 && nobody_on parts.now.cpus o.0) }
+{
+    parts.work_items().is_work_queued(o) && parts.cpus().nobody_on(o)
+}
+
+/// How many work items are queued. There are at most `OBJECTS` objects.
+fn queued_len<A: Agent>(parts: &Parts<A>) -> u32
+    ensures count { result ≡ length (filter (is_work_queued parts.now.work_items) (range_with_len 0 (length parts.now.tree.nodes))) }
+    ensures room { length parts.now.tree.nodes ≤ OBJECTS }
+{
+    let _room = parts.tree().turn_len();
+    parts.work_items().before(parts.tree().next_id())
+}
+
+/// Whether no lock keeps queued work back.
+fn is_unlocked<A: Agent>(plan: &IndexedPlan, parts: &Parts<A>) -> bool
+    ensures { result ≡ is_unlocked plan.now parts.now }
+{
+    parts.locks().held_len() == 0 || !some_serial(plan)
+}
+
+/// Whether the objects of some class are serialized.
+fn some_serial(plan: &IndexedPlan) -> bool
+    ensures { result ≡ list_any is_serial plan.now.classes }
+{
+    plan.plan()
+        .classes
+        .as_slice()
+        .iter()
+        .any(|class| is_serial(class))
+}
+
+/// Whether a class says that its objects are serialized.
+fn is_serial(class: &ClassInfo) -> bool
+    ensures { result ≡ is_serial class.now }
+{
+    match class {
+        ClassInfo::Deferred { serialize, .. } => *serialize,
+        ClassInfo::Plain { .. } => false,
+    }
+}
+
 impl Leaving {
-    /// The callback that comes before it.
-    pub(crate) fn callback(self) -> Callback
-        ensures { result ≡ callback_of self }
+    /// Whether those that may leave so are counted without a look at each.
+    pub(crate) fn is_numbered<A: Agent>(self, plan: &IndexedPlan, parts: &Parts<A>) -> bool
+        ensures { result ≡ is_numbered plan.now parts.now self }
     {
         match self {
-            Leaving::Cleanup => Callback::EvtCleanupCallback,
-            Leaving::Destroy => Callback::EvtDestroyCallback,
+            Leaving::Cleanup => !is_declared_somewhere(plan, Callback::EvtCleanupCallback),
+            Leaving::Destroy => !is_declared_somewhere(plan, Callback::EvtDestroyCallback),
+            Leaving::Work { cpu } => {
+                is_cpu(plan, Cpu(cpu))
+                    && parts.cpus().is_empty(Cpu(cpu))
+                    && is_unlocked(plan, parts)
+            }
         }
     }
 
@@ -69,6 +124,10 @@ impl Leaving {
         match self {
             Leaving::Cleanup => Group::Cleanups,
             Leaving::Destroy => Group::Destroys,
+            Leaving::Work { cpu } => Group::Starts {
+                cpu,
+                rank: Rank::Work,
+            },
         }
     }
 
@@ -79,20 +138,29 @@ impl Leaving {
         match self {
             Leaving::Cleanup => Event::Cleanup { object },
             Leaving::Destroy => Event::Destroy { object },
+            Leaving::Work { cpu } => Event::Start {
+                cpu: Cpu(cpu),
+                callback: Callback::EvtWorkItem,
+                object,
+                request: None,
+            },
         }
     }
 
-    /// Whether an object may leave so by the tree alone, and something else keeps it back.
-    fn keeps<A: Agent>(self, parts: &Parts<A>, o: ObjectId) -> bool
+    /// Whether an object may leave so by one part alone, and something else keeps it back.
+    fn is_kept_back<A: Agent>(self, parts: &Parts<A>, o: ObjectId) -> bool
         ensures { result ≡ is_kept self parts.now o.0 }
     {
         match self {
             Leaving::Cleanup => parts.tree().may_clean(o) && !clean_ready(parts, o),
             Leaving::Destroy => parts.tree().may_destroy(o) && !destroy_ready(parts, o),
+            Leaving::Work { .. } => {
+                parts.work_items().is_work_queued(o) && !may_leave_queue(parts, o)
+            }
         }
     }
 
-    /// How many objects may leave so by the tree alone. There are at most `OBJECTS` objects.
+    /// How many objects may leave so by one part alone. There are at most `OBJECTS` objects.
     fn fitting_len<A: Agent>(self, parts: &Parts<A>) -> u32
         ensures count { result ≡ length (fitting self parts.now) }
         ensures room { length parts.now.tree.nodes ≤ OBJECTS }
@@ -100,26 +168,30 @@ impl Leaving {
         match self {
             Leaving::Cleanup => parts.tree().turn_len(),
             Leaving::Destroy => parts.tree().end_len(),
+            Leaving::Work { .. } => queued_len(parts),
         }
     }
 
     /// The k-th of them, by rising id from 0; `None` exactly where there are fewer.
     fn fitting_at<A: Agent>(self, parts: &Parts<A>, k: u32) -> Option<ObjectId>
+        requires settled { DeletedSettled parts.now }
         ensures { option_map (λ o. o.0) result ≡ slice_get (fitting self parts.now) k }
     {
         match self {
             Leaving::Cleanup => parts.tree().turn_at(k),
             Leaving::Destroy => parts.tree().end_at(k),
+            Leaving::Work { .. } => parts.work_items().nth(k),
         }
     }
 
     /// How many of them have a lesser id.
     fn fitting_before<A: Agent>(self, parts: &Parts<A>, o: ObjectId) -> u32
-        ensures { result ≡ length (filter (fits_tree self parts.now) (range_with_len 0 o.0)) }
+        ensures { result ≡ length (filter (fits_part self parts.now) (range_with_len 0 o.0)) }
     {
         match self {
             Leaving::Cleanup => parts.tree().turns_before(o),
             Leaving::Destroy => parts.tree().ends_before(o),
+            Leaving::Work { .. } => parts.work_items().before(o),
         }
     }
 
@@ -128,8 +200,8 @@ impl Leaving {
         ensures { MatchOption result (NoneFrom (is_busy self parts.now) from.0 OBJECTS) (λ o. IsNext (is_busy self parts.now) from.0 OBJECTS o.0) }
     {
         match self {
-            Leaving::Cleanup => next_busy(parts, from),
-            Leaving::Destroy => parts.cpus().next_occupied(from),
+            Leaving::Cleanup => next_busy_for_cleanup(parts, from),
+            Leaving::Destroy | Leaving::Work { .. } => parts.cpus().next_occupied(from),
         }
     }
 
@@ -148,7 +220,7 @@ impl Leaving {
             if o.0 >= end {
                 return None;
             }
-            if self.keeps(parts, o) {
+            if self.is_kept_back(parts, o) {
                 return Some(o.0);
             }
             at = o.0 + 1;
@@ -206,18 +278,19 @@ impl Leaving {
     }
 }
 
-/// How many of these events may come, where nothing declares their callback.
+/// How many of these events may come.
 pub(crate) fn numbered_len<A: Agent>(
     plan: &IndexedPlan,
     parts: &Parts<A>,
     leaving: Leaving,
 ) -> usize
-    requires undeclared { groups.is_declared_somewhere plan.now (callback_of leaving) ≡ false }
-    requires settled { DeletedSettled parts.now }
+    requires numbered { is_numbered plan.now parts.now leaving ≡ true }
+    requires settled { IsSettled plan.now parts.now }
     ensures length { result ≡ length (search.offered_from plan.now A.meaning parts.now (group_of leaving) 0) }
     ensures small { result ≤ 2 ^ 32 }
 {
     let _ = plan;
+    let _in_order = parts.work_items().before(ObjectId(0));
     leaving.len(parts) as usize
 }
 
@@ -228,11 +301,12 @@ pub(crate) fn numbered_at<A: Agent>(
     leaving: Leaving,
     k: usize,
 ) -> Result<Event, usize>
-    requires undeclared { groups.is_declared_somewhere plan.now (callback_of leaving) ≡ false }
-    requires settled { DeletedSettled parts.now }
+    requires numbered { is_numbered plan.now parts.now leaving ≡ true }
+    requires settled { IsSettled plan.now parts.now }
     ensures { MatchResult result (λ event. slice_get (search.offered_from plan.now A.meaning parts.now (group_of leaving) 0) k ≡ Some event)
         (λ rest. length (search.offered_from plan.now A.meaning parts.now (group_of leaving) 0) + rest ≡ k) }
 {
+    let _in_order = parts.work_items().before(ObjectId(0));
     let len = leaving.len(parts) as usize;
     if k >= len {
         return Err(k - len);

@@ -4,13 +4,11 @@ ghost use Rattle.wdf_model.specs.declared.enums.Group.TheVariants as group;
 ghost use Rattle.wdf_model.specs.rules.Groups as groups;
 ghost use Rattle.wdf_ready.specs.Actors as actors;
 ghost use Rattle.wdf_ready.specs.Idle as idle;
-ghost use Rattle.wdf_ready.specs.Leaving.{DeletedSettled, group_of};
+ghost use Rattle.wdf_ready.specs.Leaving.{IsSettled, group_of};
 ghost use Rattle.wdf_ready.specs.Search as search;
 
 use crate::actor::is_by;
-use crate::candidates::{
-    completion_at, is_declared_somewhere, parks, places_in, stage_at, start_for, unparks,
-};
+use crate::candidates::{completion_at, parks, places_in, stage_at, start_for, unparks};
 use crate::direct::{
     cleanup_offered, completion_offered, completions_len, end_offered, own_len, post_offered,
 };
@@ -66,8 +64,9 @@ fn offered<A: Agent>(
     }
 }
 
-/// The first place from one on at which a callback of a rank can start on a processor. It is found by a look at whose
-/// turn to be cleaned up has come, at what is cleaned, and else at one part's say.
+/// The first place from one on at which a callback of a rank can start on a processor. For cleanup callbacks a set says
+/// whose turn it is, for destroy callbacks a set says what is cleaned, for timers a tick for each 64 ids says where none is
+/// due; for other ranks each place is asked of one part.
 fn next_start<A: Agent>(
     plan: &IndexedPlan,
     parts: &Parts<A>,
@@ -142,25 +141,26 @@ fn place_of(id: Option<ObjectId>) -> Option<usize>
     id.map(|id| id.0 as usize)
 }
 
-/// How many cleanups or destructions may come. They are counted without a search where nothing declares their callback.
+/// How many cleanups or destructions may come, or starts of work items on a processor. They are counted without a search
+/// where they are numbered.
 fn leaving_len<A: Agent>(plan: &IndexedPlan, parts: &Parts<A>, leaving: Leaving) -> usize
     requires agents { length parts.now.agents ≤ 2 ^ 16 }
-    requires settled { DeletedSettled parts.now }
+    requires settled { IsSettled plan.now parts.now }
     ensures length { result ≡ length (search.offered_from plan.now A.meaning parts.now (group_of leaving) 0) }
     ensures small { result ≤ 2 ^ 32 }
 {
-    if is_declared_somewhere(plan, leaving.callback()) {
-        searched_len(plan, parts, leaving.group())
-    } else {
+    if leaving.is_numbered(plan, parts) {
         numbered_len(plan, parts, leaving)
+    } else {
+        searched_len(plan, parts, leaving.group())
     }
 }
 
-/// How many events may come of a group's places. Completions are counted without a search, and so are cleanups and
-/// destructions where nothing declares their callback.
+/// How many events may come of a group's places. Completions are counted without a search, and so are cleanups,
+/// destructions and starts of work items where they are numbered.
 pub(crate) fn offered_len<A: Agent>(plan: &IndexedPlan, parts: &Parts<A>, group: Group) -> usize
     requires agents { length parts.now.agents ≤ 2 ^ 16 }
-    requires settled { DeletedSettled parts.now }
+    requires settled { IsSettled plan.now parts.now }
     ensures length { result ≡ length (search.offered_from plan.now A.meaning parts.now group 0) }
     ensures small { result ≤ 2 ^ 32 }
 {
@@ -169,6 +169,10 @@ pub(crate) fn offered_len<A: Agent>(plan: &IndexedPlan, parts: &Parts<A>, group:
         Group::Completions => completions_len(plan, parts),
         Group::Cleanups => leaving_len(plan, parts, Leaving::Cleanup),
         Group::Destroys => leaving_len(plan, parts, Leaving::Destroy),
+        Group::Starts {
+            cpu,
+            rank: Rank::Work,
+        } => leaving_len(plan, parts, Leaving::Work { cpu }),
         _ => searched_len(plan, parts, group),
     }
 }
@@ -191,7 +195,8 @@ fn searched_len<A: Agent>(plan: &IndexedPlan, parts: &Parts<A>, group: Group) ->
     count
 }
 
-/// The k-th of the cleanups or destructions that may come, or how many places of a list are left after them.
+/// The k-th of the cleanups or destructions that may come, or of the starts of work items on a processor, or how many
+/// places of a list are left after them.
 fn leaving_at<A: Agent>(
     plan: &IndexedPlan,
     parts: &Parts<A>,
@@ -199,14 +204,14 @@ fn leaving_at<A: Agent>(
     k: usize,
 ) -> Result<Event, usize>
     requires agents { length parts.now.agents ≤ 2 ^ 16 }
-    requires settled { DeletedSettled parts.now }
+    requires settled { IsSettled plan.now parts.now }
     ensures { MatchResult result (λ event. slice_get (search.offered_from plan.now A.meaning parts.now (group_of leaving) 0) k ≡ Some event)
         (λ rest. length (search.offered_from plan.now A.meaning parts.now (group_of leaving) 0) + rest ≡ k) }
 {
-    if is_declared_somewhere(plan, leaving.callback()) {
-        searched_at(plan, parts, leaving.group(), k)
-    } else {
+    if leaving.is_numbered(plan, parts) {
         numbered_at(plan, parts, leaving, k)
+    } else {
+        searched_at(plan, parts, leaving.group(), k)
     }
 }
 
@@ -219,7 +224,7 @@ pub(crate) fn offered_at<A: Agent>(
     k: usize,
 ) -> Result<Event, usize>
     requires agents { length parts.now.agents ≤ 2 ^ 16 }
-    requires settled { DeletedSettled parts.now }
+    requires settled { IsSettled plan.now parts.now }
     ensures { MatchResult result (λ event. slice_get (search.offered_from plan.now A.meaning parts.now group 0) k ≡ Some event)
         (λ rest. length (search.offered_from plan.now A.meaning parts.now group 0) + rest ≡ k) }
 {
@@ -227,6 +232,10 @@ pub(crate) fn offered_at<A: Agent>(
         Group::Completions => completion_offered(plan, parts, k),
         Group::Cleanups => leaving_at(plan, parts, Leaving::Cleanup, k),
         Group::Destroys => leaving_at(plan, parts, Leaving::Destroy, k),
+        Group::Starts {
+            cpu,
+            rank: Rank::Work,
+        } => leaving_at(plan, parts, Leaving::Work { cpu }, k),
         _ => searched_at(plan, parts, group, k),
     }
 }
@@ -261,7 +270,7 @@ fn searched_at<A: Agent>(
 pub fn allowed_len<A: Agent>(plan: &IndexedPlan, parts: &Parts<A>, all: &[Group]) -> usize
     requires agents { length parts.now.agents ≤ 2 ^ 16 }
     requires few { length all.now < 2 ^ 20 }
-    requires settled { DeletedSettled parts.now }
+    requires settled { IsSettled plan.now parts.now }
     ensures length { result ≡ length (search.events_of plan.now A.meaning parts.now all.now) }
     ensures small { result < 2 ^ 60 }
 {
@@ -280,7 +289,7 @@ pub fn allowed_at<A: Agent>(
     k: usize,
 ) -> Option<Event>
     requires agents { length parts.now.agents ≤ 2 ^ 16 }
-    requires settled { DeletedSettled parts.now }
+    requires settled { IsSettled plan.now parts.now }
     ensures { result ≡ slice_get (search.events_of plan.now A.meaning parts.now all.now) k }
 {
     let mut left = k;

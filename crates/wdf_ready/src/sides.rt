@@ -1,6 +1,6 @@
 //! The first event of a side. All events that a group has are of one side, so the others are passed over without a search.
 ghost use Rattle.std.specs.Prelude.{◌≡◌, ◌≤◌, ◌^◌, find, length};
-ghost use Rattle.wdf_ready.specs.Leaving.{DeletedSettled};
+ghost use Rattle.wdf_ready.specs.Leaving.{IsSettled};
 ghost use Rattle.wdf_ready.specs.Search as search;
 ghost use Rattle.wdf_ready.specs.Sides.{is_of as is_event_of, same_side as is_same_side, side_of, side_of_group};
 
@@ -11,7 +11,7 @@ use wdf_model::Group;
 use wdf_parts::Parts;
 use wdf_plan_index::IndexedPlan;
 
-/// Who does an event.
+/// Whose events they are.
 #[derive(Clone, Copy, Debug)]
 pub enum Side {
     /// A processor's.
@@ -74,7 +74,7 @@ fn first_in<A: Agent>(
     side: Side,
 ) -> Option<Event>
     requires agents { length parts.now.agents ≤ 2 ^ 16 }
-    requires settled { DeletedSettled parts.now }
+    requires settled { IsSettled plan.now parts.now }
     ensures { result ≡ find (is_event_of side) (search.offered_from plan.now A.meaning parts.now group 0) }
 {
     if same_side(of_group(group), side) {
@@ -92,7 +92,7 @@ pub fn first_of<A: Agent>(
     side: Side,
 ) -> Option<Event>
     requires agents { length parts.now.agents ≤ 2 ^ 16 }
-    requires settled { DeletedSettled parts.now }
+    requires settled { IsSettled plan.now parts.now }
     ensures { result ≡ find (is_event_of side) (search.events_of plan.now A.meaning parts.now all.now) }
 {
     for group in all {

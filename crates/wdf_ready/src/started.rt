@@ -1,4 +1,4 @@
-//! The starts that may come, each with its test first: a handle that is made for it needs none.
+//! The starts that may come. Each is tested before its event is made; the handles made here are proper, so they need no test.
 ghost use Rattle.std.specs.Prelude.{◌≡◌, ◌<◌, ◌^◌, Some, length};
 ghost use Rattle.wdf_base.specs.declared.rank.Rank.TheVariants as rank;
 ghost use Rattle.wdf_model.specs.declared.enums.Group.TheVariants as group;

@@ -1,5 +1,5 @@
-//! The run of a seed made plain: picks, most of them 0, whose run ends in the same kind and has no more events; and the
-//! scenario with these picks.
+//! The run of a seed made plain: picks, as many of them 0 as were found, whose run ends in the same kind and has no more
+//! events; and the scenario with these picks.
 //!
 //! # Choices
 //!

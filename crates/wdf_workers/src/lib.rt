@@ -1,5 +1,5 @@
-//! The machine run by processors as threads. The core is in a turnstile, and one worker at a time takes
-//! it, applies one event at most and gives it back.
+//! The machine run by threads: a worker for each processor, one for the framework and the clock, one for the agents. The
+//! core is in a turnstile, and one worker at a time takes it, applies one event at most and gives it back.
 //!
 //! # Choices
 //!

@@ -6,7 +6,7 @@ use Rattle.wdf_ready.proofs.leaving.numbered_at.Goals as goal
 
 pub returns-then-k-len : goal.returns-then-k-len
 returns-then-k-len g c =
-    let all = leavers_counted c.args.plan.now g.A.Agent.meaning c.args.parts.now c.args.leaving c.requires.undeclared in
+    let all = leavers_counted c.args.plan.now g.A.Agent.meaning c.args.parts.now c.args.leaving c.requires.numbered c.requires.settled (rw c.work_items.ensures at c.before-in_order.ensures.rising) in
     let count = c.len-len.ensures.count in
     let past = c.if-k-len.true in
     omega arith
@@ -14,7 +14,7 @@ returns-then-k-len g c =
 pub returns-in-Some : goal.returns-in-Some
 returns-in-Some g c =
     rw (c.event.ensures, c.handle_in.ensures)
-    (leaver_is c.args.plan.now g.A.Agent.meaning c.args.parts.now c.args.leaving c.requires.undeclared c.args.k c.at.result c.in-Some.o c.in-Some.is c.at.ensures)
+    (leaver_is c.args.plan.now g.A.Agent.meaning c.args.parts.now c.args.leaving c.requires.numbered c.requires.settled (rw c.work_items.ensures at c.before-in_order.ensures.rising) c.args.k c.at.result c.in-Some.o c.in-Some.is c.at.ensures)
 
 pub returns-in-None : goal.returns-in-None
 returns-in-None g c =

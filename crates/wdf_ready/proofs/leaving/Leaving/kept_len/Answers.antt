@@ -1,6 +1,6 @@
 -- One more is kept back, or none is further.
 use Rattle.std.proofs.Common.{◌≡◌, length, arith}
-use Rattle.wdf_ready.specs.Leaving.{fits_tree, may_leave}
+use Rattle.wdf_ready.specs.Leaving.{fits_part, may_leave}
 use Rattle.wdf_ready.proofs.Leavers.{part}
 use Rattle.wdf_ready.proofs.Numbered.{kept_all, kept_more}
 use Rattle.wdf_ready.proofs.leaving.Leaving.kept_len.Goals as goal
@@ -14,7 +14,7 @@ search-preserved g c =
     let under = next.within in
     let few = c.search.invariant.few in
     let counted = c.search.invariant.counted in
-    let more = kept_more (fits_tree c.args.self S) (may_leave c.args.self S) (part c.args.self S) c.search.at _ c.in-Some.o next in
+    let more = kept_more (fits_part c.args.self S) (may_leave c.args.self S) (part c.args.self S) c.search.at _ c.in-Some.o next in
     record { counted = omega arith; few = omega arith; within = omega arith }
 
 pub returns : goal.returns
@@ -23,5 +23,5 @@ returns g c =
     let all : c.len-end.result ≡ length S.tree.nodes = rw c.tree.ensures at c.len-end.ensures in
     let within = c.search.invariant.within in
     let counted = c.search.invariant.counted in
-    let last = kept_all (fits_tree c.args.self S) (may_leave c.args.self S) (part c.args.self S) c.search.at (length S.tree.nodes) within (rw all at c.in_default.ensures) in
+    let last = kept_all (fits_part c.args.self S) (may_leave c.args.self S) (part c.args.self S) c.search.at (length S.tree.nodes) within (rw all at c.in_default.ensures) in
     omega arith

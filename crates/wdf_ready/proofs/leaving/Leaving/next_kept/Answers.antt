@@ -11,10 +11,10 @@ pub returns-then-o-end : goal.returns-then-o-end
 returns-then-o-end g c =
     none_within c.args.self c.args.parts.now c.requires.settled c.args.from c.search.at c.args.end c.requires.room c.search.invariant.none c.in-Some.o.0 c.in-Some.ensures (omega (arith, c.if-o-end.true))
 
-pub returns-then-keeps : goal.returns-then-keeps
-returns-then-keeps g c =
+pub returns-then-is_kept_back : goal.returns-then-is_kept_back
+returns-then-is_kept_back g c =
     let below : c.in-Some.o.0 < c.args.end = omega (arith, c.if-o-end.false) in
-    kept_next c.args.self c.args.parts.now c.requires.settled c.args.from c.search.at c.args.end c.requires.room c.search.invariant.none c.in-Some.o.0 c.in-Some.ensures c.search.invariant.after below (sym c.keeps.ensures ∙ c.if-keeps.true)
+    kept_next c.args.self c.args.parts.now c.requires.settled c.args.from c.search.at c.args.end c.requires.room c.search.invariant.none c.in-Some.o.0 c.in-Some.ensures c.search.invariant.after below (sym c.is_kept_back.ensures ∙ c.if-is_kept_back.true)
 
 pub search-smaller : goal.search-smaller
 search-smaller g c =
@@ -28,5 +28,5 @@ search-preserved g c =
     let from = c.search.invariant.after in
     record {
       after = omega arith;
-      none = kept_elsewhere c.args.self c.args.parts.now c.requires.settled c.args.from c.search.at c.args.end c.requires.room c.search.invariant.none c.in-Some.o.0 c.in-Some.ensures (sym c.keeps.ensures ∙ c.if-keeps.false);
+      none = kept_elsewhere c.args.self c.args.parts.now c.requires.settled c.args.from c.search.at c.args.end c.requires.room c.search.invariant.none c.in-Some.o.0 c.in-Some.ensures (sym c.is_kept_back.ensures ∙ c.if-is_kept_back.false);
     }

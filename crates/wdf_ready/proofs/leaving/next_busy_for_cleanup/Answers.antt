@@ -5,7 +5,7 @@ use Rattle.wdf_cpu.specs.Occupied.{is_awaited, is_occupied}
 use Rattle.wdf_lock.specs.Holds.{is_locked}
 use Rattle.wdf_request.specs.Closing.{is_out}
 use Rattle.wdf_ready.proofs.Leavers.{lesser_next}
-use Rattle.wdf_ready.proofs.leaving.next_busy.Goals as goal
+use Rattle.wdf_ready.proofs.leaving.next_busy_for_cleanup.Goals as goal
 
 pub returns : goal.returns
 returns g c =

@@ -1,0 +1,11 @@
+-- Queued work is listed by rising id, and what is queued is an object.
+use Rattle.std.proofs.Common.{length, slice_get, ap, ◌∙◌}
+use Rattle.wdf_ready.proofs.Leavers.{none_beyond}
+use Rattle.wdf_ready.proofs.leaving.Leaving.fitting_at.Goals as goal
+
+pub returns-in-Work : goal.returns-in-Work
+returns-in-Work g c =
+    let S = c.args.parts.now in
+    rw c.in-Work.is
+    ((rw c.work_items.ensures at c.nth.ensures.item)
+    ∙ ap (λ xs. slice_get xs c.args.k) ((rw c.work_items.ensures at c.nth.ensures.rising).rising (length S.tree.nodes) (none_beyond S c.requires.settled)))
