@@ -7,7 +7,6 @@ ghost use Rattle.wdf_model.specs.State.{opening_agents};
 ghost use Rattle.wdf_model.specs.rules.Ready.{IsRunOf, allowed, ending_of, ending_without_fault, last_fault, ready, state_after, waits_for_time};
 ghost use Rattle.wdf_model.specs.rules.Waits.{wait_list};
 ghost use Rattle.wdf_core.specs.Course.{IsUnderWay};
-ghost use Rattle.wdf_core.specs.Walks.{waits_from};
 ghost use Rattle.wdf_core.specs.Going.{goes_on, is_tick, tick_if};
 ghost use Rattle.law_machine_places.specs.Placed.{IsAmong};
 ghost use Rattle.wdf_ready.specs.Actors.{is_by as is_step_of};
