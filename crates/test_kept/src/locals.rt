@@ -9,6 +9,7 @@ use wdf_core::Core;
 
 /// How many statements the reads with a length come to, and how many events the run has.
 const LOCALS: u32 = 2800;
+
 const EVENTS: usize = 20_000;
 
 /// Goes on by the event that a word names, if one may follow, and looks how many may follow then, and which is the first.
@@ -42,7 +43,7 @@ fn a_local_asks_no_agent(rt: HostRuntime) -> Result<(), Fail> {
             break;
         };
         if is_local {
-            locals += 1;
+            locals = locals.wrapping_add(1);
             assert_eq!(rt; questions, 0);
         }
     }
