@@ -1,5 +1,5 @@
 //! The wait list of a run, in one walk.
-ghost use Rattle.std.specs.Prelude.{◌≡◌, ◌<◌, ◌∷◌, IfOk, length};
+ghost use Rattle.std.specs.Prelude.{◌≡◌, ◌<◌, ◌∷◌, IfOk, Some, drop, length, slice_get};
 ghost use Rattle.wdf_model.specs.rules.Waits.{wait_list};
 ghost use Rattle.wdf_core.specs.Walks.{waits_from};
 
@@ -23,6 +23,28 @@ impl<A: Agent> Core<A> {
         ensures { waits_from self.now.plan A.meaning self.now.journal place ≡ result.0 ∷ waits_from self.now.plan A.meaning self.now.journal result.1 }
     {
         next_wait(self.indexed(), self.parts(), place).unwrap()
+    }
+
+    /// The place of the k-th line of the wait list, by a walk from its front.
+    fn wait_place(&self, k: usize) -> WaitPlace
+        requires { k < length (wait_list self.now.plan A.meaning self.now.journal) }
+        ensures { waits_from self.now.plan A.meaning self.now.journal result ≡ drop k (wait_list self.now.plan A.meaning self.now.journal) }
+    {
+        let mut place = self.first_wait();
+        for _line in 0..k {
+            place = self.next_wait(place).1;
+        }
+        place
+    }
+
+    /// The k-th line of the wait list: who waits, and why. It takes no memory. It walks there from the front, so who wants
+    /// all lines walks along them instead.
+    pub fn wait_at(&self, k: usize) -> WaitLine
+        requires { k < length (wait_list self.now.plan A.meaning self.now.journal) }
+        ensures { slice_get (wait_list self.now.plan A.meaning self.now.journal) k ≡ Some result }
+    {
+        let place = self.wait_place(k);
+        self.next_wait(place).0
     }
 
     /// The wait list: who waits, and why. It has no lines unless the run is stuck.
