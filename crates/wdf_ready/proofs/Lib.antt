@@ -8,6 +8,7 @@ pub mod Kept
 pub mod Cancels
 pub mod Own
 pub mod Straight
+mod Undeclared
 pub mod Begins
 pub mod Counting
 pub mod Decided
