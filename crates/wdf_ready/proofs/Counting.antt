@@ -7,16 +7,10 @@ use Rattle.wdf_base.specs.Meaning.{Meaning}
 use Rattle.wdf_base.specs.declared.plan.Plan.{Plan}
 use Rattle.wdf_model.specs.declared.enums.Group.{Group}
 use Rattle.wdf_model.specs.State.{State}
-use Rattle.wdf_ready.specs.Counts.{Counts, IsKept, is_stale}
+use Rattle.wdf_ready.specs.Counts.{IsCountedTo, IsKept, is_stale}
 use Rattle.wdf_ready.specs.Search.{offered_len}
 use Rattle.wdf_ready.specs.declared.stale.Stale.{Stale}
 use Rattle.wdf_ready.specs.declared.stale.Stale.TheVariants as stale
-
--- the counts of the groups up to a place are right, and so are those of the others that are known
-pub record IsCountedTo {A : Type 0} (plan : Plan) (m : Meaning A) (S : State A) (all : List Group) (s : Stale) (each : List ℕ) (at : ℕ) : Type 0 where
-  pub filled : length each ≡ length all
-  pub small : (i : ℕ) → get_or each i 0 ≤ 2 ^ 32
-  pub right : (i : ℕ) (g : Group) → slice_get all i ≡ Some g → (i < at) ⊎ (is_stale s g ≡ false) → get_or each i 0 ≡ offered_len plan m S g
 
 -- what is written at a place
 read_written : (each : List ℕ) (at i n : ℕ) (b : Bool) → (i == at) ≡ b → at < length each → get_or each i 0 ≤ 2 ^ 32 → n ≤ 2 ^ 32 → get_or (slice_set each at n) i 0 ≤ 2 ^ 32

@@ -1,4 +1,5 @@
 pub mod Grouping
+pub mod Alike
 pub mod Places
 pub mod NotOffered
 pub mod Skips

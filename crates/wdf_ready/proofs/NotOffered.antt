@@ -116,7 +116,7 @@ dpc_low : (plan : Plan) (k : Kind) (o : ℕ) → callback_irql plan (dpc_functio
 dpc_low plan kind.Interrupt o = omega arith
 dpc_low plan _ o = omega arith
 
-empty_is_low : (C : Cpus) (fs : List ℕ) → (length fs == 0) ≡ true → level_of_top C (first_of_list fs) ≡ 0
+pub empty_is_low : (C : Cpus) (fs : List ℕ) → (length fs == 0) ≡ true → level_of_top C (first_of_list fs) ≡ 0
 empty_is_low C [] h = refl
 empty_is_low C (f ∷ fs) h = let none = eqb-true (length (f ∷ fs)) 0 h in absurd (omega arith)
 

@@ -59,8 +59,8 @@ each_fails test (y ∷ ys) h (suc j) x at = each_fails test ys (other_fails (tes
 
 module _ (plan : Plan) (r : Rank) (none : can_start plan r ≡ false) (c : Callback) (its : starts_by r c ≡ true) where
   unlike : (s : Callback) (b : Bool) → same_callback s c ≡ b → starts_by r s ≡ false → b ≡ false
-  unlike s true e no = absurd (let is = ap (starts_by r) ((callback_decides s c).0 e) in let z : ⊥ = cc in z)
-  unlike s false e no = refl
+  unlike s true e other = absurd (let is = ap (starts_by r) ((callback_decides s c).0 e) in let z : ⊥ = cc in z)
+  unlike s false e other = refl
 
   no_script : (d : Declared) (j : ℕ) (s : Script) → j < length plan.scripts → slice_get plan.scripts j ≡ Some s → is_script_of c d s ≡ false
   no_script d j s below at =
@@ -82,12 +82,12 @@ handler_starts c ranked = rw ranked refl
 
 module _ {A : Type 0} (plan : Plan) (m : Meaning A) (S : State A) where
   not_declared : (cpu : ℕ) (c : Callback) (o : ℕ) (h : Option Handle) → declares_in plan S c o ≡ false → if_allowed plan m S (Some (event.Start (cpu_of cpu) c (handle_in plan S o) h)) ≡ None
-  not_declared cpu c o h no =
+  not_declared cpu c o h lacks =
       not_started plan m S cpu c o h
       (left_fails (declares_in plan S c o && life_fits S c o && level_fits S cpu (callback_irql plan c o) && is_free_if_any S.locks (lock_of_callback plan c o (declared_in plan S o))) (is_ready_for plan m S cpu c o h)
       (left_fails (declares_in plan S c o && life_fits S c o && level_fits S cpu (callback_irql plan c o)) (is_free_if_any S.locks (lock_of_callback plan c o (declared_in plan S o)))
       (left_fails (declares_in plan S c o && life_fits S c o) (level_fits S cpu (callback_irql plan c o))
-      (left_fails (declares_in plan S c o) (life_fits S c o) no))))
+      (left_fails (declares_in plan S c o) (life_fits S c o) lacks))))
 
   -- a callback that may start by the group of a rank doesn't, where none such is declared
   undeclared : (r : Rank) → can_start plan r ≡ false → (cpu : ℕ) (c : Callback) (o : ℕ) (h : Option Handle) → starts_by r c ≡ true

@@ -3,6 +3,7 @@
 #![tactic(auto)]
 
 mod actor;
+mod alike;
 mod among;
 mod candidates;
 mod counts;
