@@ -3,5 +3,6 @@
 
 mod dispatch;
 mod queues;
+mod waiting;
 
 pub use queues::Queues;
