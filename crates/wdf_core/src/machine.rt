@@ -21,7 +21,7 @@ use wdf_model::Group;
 use wdf_parts::Parts;
 use wdf_plan_index::IndexedPlan;
 use wdf_ready::{
-    KeptCounts, Side, allowed_at, first_by, first_of, groups_of, is_allowed, is_by, is_of, is_open,
+    KeptCounts, Side, allowed_at, any_own, first_by, first_of, groups_of, is_allowed, is_by, is_of, is_open,
     waits_for_time,
 };
 use wdf_same::same_event;
@@ -299,11 +299,19 @@ impl<A: Agent> Core<A> {
         }
     }
 
-    /// Whether an event may follow. It doesn't count how many may.
+    /// Whether a running frame has an event of its own, if the run may go on. It looks at the top frames alone.
+    fn any_runs(&self) -> bool
+        ensures { IsTrue result → nat_lt 0 (length (ready self.now.plan A.meaning self.now.journal)) ≡ true }
+    {
+        let _ = &self.plan;
+        self.goes_on() && any_own(&self.plan, &self.parts, &self.groups)
+    }
+
+    /// Whether an event may follow. It doesn't count how many may, and looks at running frames first.
     pub fn any_ready(&self) -> bool
         ensures { result ≡ nat_lt 0 (length (ready self.now.plan A.meaning self.now.journal)) }
     {
-        self.first_ready().is_some()
+        self.any_runs() || self.first_ready().is_some()
     }
 
     /// The k-th of the events that may follow.

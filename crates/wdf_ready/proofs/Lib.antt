@@ -14,6 +14,7 @@ pub mod Begins
 pub mod Counting
 pub mod Decided
 mod DueTimers
+mod Handlers
 pub mod Numbered
 pub mod Leavers
 pub mod SidesOfGroups
