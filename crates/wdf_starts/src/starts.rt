@@ -48,8 +48,8 @@ pub fn may_start<A: Agent>(
 {
     life_fits(parts, callback, o)
         && level_fits(parts, cpu, plan.callback_irql(callback, o))
-        && is_ready_for(plan, parts, cpu, callback, o, request)
         && lock_is_free(plan, parts, callback, o)
+        && is_ready_for(plan, parts, cpu, callback, o, request)
         && parts.declares_in(plan, callback, o)
 }
 
