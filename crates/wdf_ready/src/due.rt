@@ -12,6 +12,12 @@ use wdf_parts::Parts;
 use wdf_plan_index::IndexedPlan;
 use wdf_starts::rank_ready_for;
 
+/// Up to so many ids are sooner asked one by one than looked up in a set.
+const FEW_IDS: usize = 32;
+
+/// The last id that there can be.
+const LAST_ID: usize = u32::MAX as usize;
+
 /// Whether the completion routine of what is sent to a target is due, by its place.
 fn is_routine_due<A: Agent>(plan: &IndexedPlan, parts: &Parts<A>, t: ObjectId, place: usize) -> bool
     requires { place < length (targets.the_target parts.now.targets t.0).sent }
@@ -213,7 +219,7 @@ pub(crate) fn next_startable<A: Agent>(
 {
     match rank {
         Rank::Timed => next_timer(parts, from, end),
-        Rank::Handler if from < u32::MAX as usize && end <= u32::MAX as usize => {
+        Rank::Handler if end > FEW_IDS && end <= LAST_ID => {
             next_handled(parts, from as u32, end as u32)
         }
         _ => next_by_one(parts, rank, from, end),

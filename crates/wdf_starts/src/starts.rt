@@ -46,11 +46,11 @@ pub fn may_start<A: Agent>(
 ) -> bool
     ensures { result ≡ starts.may_start plan.now A.meaning parts.now cpu.0 callback o.0 request }
 {
-    life_fits(parts, callback, o)
+    parts.declares_in(plan, callback, o)
+        && life_fits(parts, callback, o)
         && level_fits(parts, cpu, plan.callback_irql(callback, o))
         && lock_is_free(plan, parts, callback, o)
         && is_ready_for(plan, parts, cpu, callback, o, request)
-        && parts.declares_in(plan, callback, o)
 }
 
 /// Whether the lock that a callback takes at its start is free, where it takes one.
