@@ -1,5 +1,5 @@
 pub mod Grouping
-pub mod Alike
+pub mod EmptyCpus
 pub mod Places
 pub mod NotOffered
 pub mod Skips

@@ -32,7 +32,7 @@ fn is_shared(rank: Rank) -> bool
 }
 
 /// Whether two ranks are one.
-#[tactic(auto, using(crate::proofs::Alike::same_rank))]
+#[tactic(auto, using(crate::proofs::EmptyCpus::same_rank))]
 fn same_rank(one: Rank, other: Rank) -> bool
     ensures { IsTrue result → one ≡ other }
 {
