@@ -299,19 +299,25 @@ impl<A: Agent> Core<A> {
         }
     }
 
-    /// Whether a running frame has an event of its own, if the run may go on. It looks at the top frames alone.
+    /// Whether the top frame of a processor has an event that may follow. Nothing but the top frames is looked at.
     fn any_runs(&self) -> bool
         ensures { IsTrue result → nat_lt 0 (length (ready self.now.plan A.meaning self.now.journal)) ≡ true }
     {
         let _ = &self.plan;
-        self.goes_on() && any_own(&self.plan, &self.parts, &self.groups)
+        if !self.goes_on() {
+            return false;
+        }
+        any_own(&self.plan, &self.parts, &self.groups)
     }
 
-    /// Whether an event may follow. It doesn't count how many may, and looks at running frames first.
+    /// Whether an event may follow. It doesn't count how many may, and looks at the top frames first.
     pub fn any_ready(&self) -> bool
         ensures { result ≡ nat_lt 0 (length (ready self.now.plan A.meaning self.now.journal)) }
     {
-        self.any_runs() || self.first_ready().is_some()
+        if self.any_runs() {
+            return true;
+        }
+        self.first_ready().is_some()
     }
 
     /// The k-th of the events that may follow.

@@ -1,5 +1,5 @@
 //! Groups that offer as many events as the same group of the processor before, since both processors are empty. (own)
-ghost use Rattle.std.specs.Prelude.{◌≡◌, ◌<◌, IsTrue};
+ghost use Rattle.std.specs.Prelude.{◌≡◌, ◌<◌, true, IsTrue};
 ghost use Rattle.wdf_ready.specs.Alike.{AreAlike, is_shared};
 ghost use Rattle.wdf_ready.specs.Search as search;
 
@@ -39,6 +39,14 @@ fn same_rank(one: Rank, other: Rank) -> bool
     one.number() == other.number()
 }
 
+/// Whether two ranks are one, and shared.
+fn share_rank(one: Rank, other: Rank) -> bool
+    ensures same { IsTrue result → one ≡ other }
+    ensures shared { IsTrue result → is_shared one ≡ true }
+{
+    is_shared(one) && same_rank(one, other)
+}
+
 /// Whether both are empty processors of the plan.
 fn are_alike<A: Agent>(plan: &IndexedPlan, parts: &Parts<A>, one: Cpu, other: Cpu) -> bool
     ensures { IsTrue result → AreAlike plan.now parts.now one.0 other.0 }
@@ -60,7 +68,7 @@ pub(crate) fn offer_alike<A: Agent>(
 {
     match (one, other) {
         (Group::Starts { cpu: a, rank: r }, Group::Starts { cpu: b, rank: s }) => {
-            is_shared(r) && same_rank(r, s) && are_alike(plan, parts, Cpu(a), Cpu(b))
+            share_rank(r, s) && are_alike(plan, parts, Cpu(a), Cpu(b))
         }
         (
             Group::StartsFor {
@@ -73,7 +81,7 @@ pub(crate) fn offer_alike<A: Agent>(
                 rank: s,
                 object: p,
             },
-        ) => o == p && same_rank(r, s) && are_alike(plan, parts, Cpu(a), Cpu(b)),
+        ) if o == p => share_rank(r, s) && are_alike(plan, parts, Cpu(a), Cpu(b)),
         _ => false,
     }
 }

@@ -219,7 +219,7 @@ pub(crate) fn next_startable<A: Agent>(
 {
     match rank {
         Rank::Timed => next_timer(parts, from, end),
-        Rank::Handler if end > FEW_IDS && end <= LAST_ID => {
+        Rank::Handler if from < end && end > FEW_IDS && end <= LAST_ID => {
             next_handled(parts, from as u32, end as u32)
         }
         _ => next_by_one(parts, rank, from, end),

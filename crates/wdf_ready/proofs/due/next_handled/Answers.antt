@@ -10,4 +10,4 @@ returns-in-None g c =
 pub returns-then-is_free : goal.returns-then-is_free
 returns-then-is_free g c =
     next_is_free c.args.parts.now c.args.from c.search.at c.args.end c.search.invariant.none c.in-Some.q.0 (rw c.queues.ensures at c.in-Some.ensures) c.search.invariant.after
-    (sym c.is_free.ensures ∙ c.if-is_free.true)
+    (rw c.queues-in-search.ensures at (sym c.is_free.ensures ∙ c.if-is_free.true))
