@@ -1,8 +1,7 @@
 -- The starts of a rank on two empty processors are as many.
-use Rattle.std.proofs.Common.{if◌then◌else◌, Bool, true, false, ◌&&◌, ◌==◌, ◌-◌, nat_lt, ℕ, zero, suc, ◌≡◌, List, [], ◌∷◌, length, Option, Some, None, is_some, option_map, slice_get, refl, sym, ap, ◌∙◌, arith}
+use Rattle.std.proofs.Common.{if◌then◌else◌, Bool, true, false, ◌&&◌, ◌==◌, ◌-◌, nat_lt, ℕ, suc, ◌≡◌, List, [], ◌∷◌, length, Option, Some, None, is_some, option_map, slice_get, refl, sym, ap, ◌∙◌}
 use Rattle.std.specs.List.{cons_option, filter_map, range_with_len}
 use Rattle.std.specs.Option.{option_and_then}
-use Rattle.std.proofs.lemmas.Bool.{eqb-true}
 use Rattle.wdf_base.specs.Meaning.{Meaning}
 use Rattle.wdf_base.specs.declared.call.Callback.{Callback}
 use Rattle.wdf_base.specs.declared.call.Callback.TheVariants as callback

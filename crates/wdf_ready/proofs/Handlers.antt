@@ -1,8 +1,8 @@
 -- The queues whose front request a handler can take, as a search over the queues in which a request waits finds them.
-use Rattle.std.proofs.Common.{Bool, true, false, not, ◌&&◌, ℕ, ◌≡◌, ◌⊎◌, ◌+◌, ◌<◌, ◌≤◌, inl, inr, ap, ◌∙◌, arith}
+use Rattle.std.proofs.Common.{Bool, true, false, not, ◌&&◌, ℕ, ◌≡◌, ◌⊎◌, ◌<◌, ◌≤◌, inl, inr, arith}
 use Rattle.std.proofs.lemmas.Bool.{cases_lt}
 use Rattle.wdf_base.specs.declared.rank.Rank.TheVariants as rank
-use Rattle.wdf_model.proofs.Tests.{left_fails, right_fails}
+use Rattle.wdf_model.proofs.Tests.{left_fails}
 use Rattle.wdf_model.specs.State.{State}
 use Rattle.wdf_model.specs.parts.Queues.{is_empty_queue, is_free}
 use Rattle.wdf_queue.specs.Filled.{is_filled}
@@ -13,9 +13,6 @@ module _ {A : Type 0} (S : State A) where
   -- a queue in which nobody waits has no front
   unfilled : (q : ℕ) → is_filled S.queues q ≡ false → can_start_at S rank.Handler q ≡ false
   unfilled q h = left_fails (not (is_empty_queue S.queues q)) (is_free S.queues q) h
-
-  busy : (q : ℕ) → is_free S.queues q ≡ false → can_start_at S rank.Handler q ≡ false
-  busy q h = right_fails (not (is_empty_queue S.queues q)) (is_free S.queues q) h
 
   both : (a b : Bool) → a ≡ true → b ≡ true → (a && b) ≡ true
   both true b h k = k
@@ -44,11 +41,3 @@ module _ {A : Type 0} (S : State A) where
             passes = both (not (is_empty_queue S.queues x)) (is_free S.queues x) h.passes free;
             before = further x h.before;
           }
-
-      -- it isn't
-      pub next_is_busy : is_free S.queues x ≡ false → NoneFrom (can_start_at S rank.Handler) from (x + 1)
-      next_is_busy held p above below = by (cases_lt p x)
-        where
-          by : (p < x) ⊎ (x ≤ p) → can_start_at S rank.Handler p ≡ false
-          by (inl before) = further x h.before p above before
-          by (inr here) = let same : p ≡ x = omega arith in ap (can_start_at S rank.Handler) same ∙ busy x held

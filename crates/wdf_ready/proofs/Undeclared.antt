@@ -1,5 +1,5 @@
 -- A callback that nothing declares doesn't start: of the groups that are left out nothing is ever offered.
-use Rattle.std.proofs.Common.{Bool, true, false, not, ◌&&◌, ◌==◌, ◌||◌, ℕ, zero, suc, ◌≡◌, ◌<◌, List, [], ◌∷◌, length, Option, Some, None, is_some, position, slice_get, refl, sym, ap, ◌∙◌, arith}
+use Rattle.std.proofs.Common.{Bool, true, false, not, ◌&&◌, ◌||◌, ℕ, zero, suc, ◌≡◌, ◌<◌, List, [], ◌∷◌, length, Option, Some, None, is_some, slice_get, refl, sym, ap, ◌∙◌, arith}
 use Rattle.std.specs.List.{list_any}
 use Rattle.std.specs.Option.{option_and_then}
 use Rattle.wdf_base.specs.Callbacks.{carries_request, dpc_function, row_of}
@@ -10,7 +10,6 @@ use Rattle.wdf_base.specs.SamePlan.{same_declared}
 use Rattle.wdf_base.specs.declared.call.Callback.{Callback}
 use Rattle.wdf_base.specs.declared.call.Callback.TheVariants as callback
 use Rattle.wdf_base.specs.declared.declared.Declared.{Declared}
-use Rattle.wdf_base.specs.declared.event.Event.{Event}
 use Rattle.wdf_base.specs.declared.event.Event.TheVariants as event
 use Rattle.wdf_base.specs.declared.event.Step.{Step}
 use Rattle.wdf_base.specs.declared.event.Step.TheVariants as step
@@ -22,7 +21,7 @@ use Rattle.wdf_base.specs.declared.rank.Rank.{Rank}
 use Rattle.wdf_base.specs.declared.rank.Rank.TheVariants as rank
 use Rattle.wdf_base.specs.declared.script.Script.{Script}
 use Rattle.wdf_model.proofs.Sames.{callback_decides}
-use Rattle.wdf_model.proofs.Tests.{left_fails, right_fails}
+use Rattle.wdf_model.proofs.Tests.{left_fails}
 use Rattle.wdf_model.specs.Ids.{cpu_of}
 use Rattle.wdf_model.specs.Plans.{callback_irql, handler_for, interrupt_of, queue_of, script_on}
 use Rattle.wdf_model.specs.State.{State, declared_in, declares_in, handle_in}
@@ -36,7 +35,7 @@ use Rattle.wdf_model.specs.parts.Queues.{front}
 use Rattle.wdf_model.specs.parts.Requests.{info_of}
 use Rattle.wdf_model.specs.parts.Targets.{the_target}
 use Rattle.wdf_model.specs.parts.Tree.{kind_of}
-use Rattle.wdf_model.specs.rules.Groups.{handler_start, start_at, start_of_step, starts, starts_for}
+use Rattle.wdf_model.specs.rules.Groups.{handler_start, start_of_step, starts, starts_for}
 use Rattle.wdf_model.specs.rules.Starts.{is_ready_for, level_fits, life_fits, rank_ready}
 use Rattle.wdf_ready.specs.Search.{can_start, if_allowed, offered, starts_by}
 use Rattle.wdf_ready.proofs.NotOffered.{handler_ranked, not_mapped, not_ready, not_started, not_there}

@@ -1,6 +1,6 @@
 -- Of the queues in which a request waits the first that is free, or none.
-use Rattle.std.proofs.Common.{◌∙◌, sym, arith}
-use Rattle.wdf_ready.proofs.Handlers.{next_is_busy, next_is_free, none_filled}
+use Rattle.std.proofs.Common.{◌∙◌, sym}
+use Rattle.wdf_ready.proofs.Handlers.{next_is_free, none_filled}
 use Rattle.wdf_ready.proofs.due.next_handled.Goals as goal
 
 pub returns-in-None : goal.returns-in-None
