@@ -1,5 +1,4 @@
 pub mod Openings
 pub mod Places
 pub mod Cleared
-mod Marking
 pub mod Sums

@@ -3,6 +3,5 @@
 
 mod dispatch;
 mod queues;
-mod waiting;
 
 pub use queues::Queues;

@@ -1,15 +1,13 @@
-ghost use Rattle.std.specs.Prelude.{◌≡◌, ℕ, ◌+◌, ◌<◌, ◌≤◌, IfOk, MatchOption, None, Some, if◌then◌else◌, drop, false, is_some, length, option_map, replicate, slice_get};
+ghost use Rattle.std.specs.Prelude.{◌≡◌, ℕ, ◌+◌, ◌<◌, ◌≤◌, IfOk, None, Some, if◌then◌else◌, drop, false, is_some, length, option_map, replicate, slice_get};
 ghost use Rattle.wdf_model.specs.Tables.{put};
 ghost use Rattle.wdf_model.specs.parts.Queues as queues;
 ghost use Rattle.wdf_model.specs.parts.Queues.{held_count, held_in, is_waiting, waiting_in};
-ghost use Rattle.wdf_sets.specs.Nexts.{IsNext, NoneFrom};
-ghost use Rattle.wdf_queue.specs.Filled.{is_filled};
 
 use crate::dispatch::{is_free_by, opening_dispatches, write_dispatches};
-use crate::waiting::Waiting;
 use std::alloc::Global;
 use std::marker::Model;
 use wdf_base::{DispatchKind, Memory, ObjectId, Plan};
+use wdf_ilist::Links;
 use wdf_maps::{entry_at, object_at};
 use wdf_model::{EVENTS, OBJECTS};
 
@@ -20,7 +18,7 @@ pub struct Queues {
     /// How each queue presents its requests, by id.
     dispatch: Vec<DispatchKind>,
     /// The waiting list of each queue, by id.
-    waiting: Waiting,
+    waiting: Links,
     /// How many requests from each queue the driver holds, by id.
     held: Vec<u32>,
 }
@@ -47,7 +45,7 @@ impl Queues {
         let ids = 1 + plan.declared_len();
         Ok(Queues {
             dispatch: opening_dispatches(alloc, plan)?,
-            waiting: Waiting::make(alloc, ids, OBJECTS)?,
+            waiting: Links::make(alloc, ids, OBJECTS)?,
             held: no_counts(alloc, ids as usize)?,
         })
     }
@@ -81,13 +79,6 @@ impl Queues {
         ensures { result ≡ queues.is_empty_queue self.now q.0 }
     {
         self.waiting.is_empty(q.0)
-    }
-
-    /// The first queue from an id on, below an end, in which a request waits. It looks at no other queue.
-    pub fn next_filled(&self, from: ObjectId, end: u32) -> Option<ObjectId>
-        ensures { MatchOption result (NoneFrom (is_filled self.now) from.0 end) (λ q. IsNext (is_filled self.now) from.0 end q.0) }
-    {
-        object_at(self.waiting.next_filled(from.0, end))
     }
 
     /// Whether a request waits in some queue.
@@ -218,7 +209,7 @@ impl Queues {
         ensures found { result ≡ is_waiting self.old r.0 }
         ensures done { self.new ≡ queues.take_cancelled self.old r.0 }
     {
-        self.waiting.unlink(r.0)
+        self.waiting.unlink(r.0).is_some()
     }
 
     /// Nothing waits in a queue any more.
