@@ -14,7 +14,6 @@ pub mod Begins
 pub mod Counting
 pub mod Decided
 mod DueTimers
-mod Handlers
 pub mod Numbered
 pub mod Leavers
 pub mod SidesOfGroups

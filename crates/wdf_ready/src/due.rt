@@ -12,12 +12,6 @@ use wdf_parts::Parts;
 use wdf_plan_index::IndexedPlan;
 use wdf_starts::rank_ready_for;
 
-/// Up to so many ids are sooner asked one by one than looked up in a set.
-const FEW_IDS: usize = 32;
-
-/// The last id that there can be.
-const LAST_ID: usize = u32::MAX as usize;
-
 /// Whether the completion routine of what is sent to a target is due, by its place.
 fn is_routine_due<A: Agent>(plan: &IndexedPlan, parts: &Parts<A>, t: ObjectId, place: usize) -> bool
     requires { place < length (targets.the_target parts.now.targets t.0).sent }
@@ -172,26 +166,6 @@ fn next_timer<A: Agent>(parts: &Parts<A>, from: usize, end: usize) -> Option<usi
     }
 }
 
-/// The first queue from an id on below an end whose front request its handler can take. It asks only the queues in which a
-/// request waits.
-fn next_handled<A: Agent>(parts: &Parts<A>, from: u32, end: u32) -> Option<usize>
-    ensures { MatchOption result (NoneFrom (idle.can_start_at parts.now rank.Handler) from end)
-        (λ place. IsNext (idle.can_start_at parts.now rank.Handler) from end place) }
-{
-    let mut at = from;
-    'search: while at < end {
-        let q = match parts.queues().next_filled(ObjectId(at), end) {
-            Some(q) => q,
-            None => return None,
-        };
-        if parts.queues().is_free(q) {
-            return Some(q.0 as usize);
-        }
-        at = q.0 + 1;
-    }
-    None
-}
-
 /// The same for a callback of any rank: it asks each place.
 fn next_by_one<A: Agent>(parts: &Parts<A>, rank: Rank, from: usize, end: usize) -> Option<usize>
     requires small { end ≤ 2 ^ 32 }
@@ -219,9 +193,6 @@ pub(crate) fn next_startable<A: Agent>(
 {
     match rank {
         Rank::Timed => next_timer(parts, from, end),
-        Rank::Handler if from < end && end > FEW_IDS && end <= LAST_ID => {
-            next_handled(parts, from as u32, end as u32)
-        }
         _ => next_by_one(parts, rank, from, end),
     }
 }
