@@ -178,6 +178,7 @@ fn add_ways(
     ensures { OnOk result (after.new.items ≡ after.old.items ++ map (spec.by_way a.now to.next to.into) (spec.ways kind held)) }
 {
     let success = Known::Stat(Status::Success);
+    let cancelled = Known::Stat(Status::Cancelled);
     let invalid = Known::Stat(Status::InvalidDeviceRequest);
     match kind {
         CallKind::WdfRequestComplete | CallKind::WdfRequestRequeue => {
@@ -194,7 +195,7 @@ fn add_ways(
         }
         CallKind::WdfRequestMarkCancelableEx => {
             add_way(after, alloc, a, to, Hold::Marked, success)?;
-            add_way(after, alloc, a, to, Hold::Own, Known::Stat(Status::Cancelled))?;
+            add_way(after, alloc, a, to, Hold::Own, cancelled)?;
             add_way(after, alloc, a, to, Hold::Own, invalid)
         }
         CallKind::WdfRequestUnmarkCancelable => add_ways_of_unmarking(after, alloc, a, to, held),
