@@ -18,31 +18,31 @@ ghost use Rattle.wdf_model.specs.rules.Ready.{IsPickedRun, IsRunOf};
 ghost use Rattle.wdf_dev.specs.Agents.{agent_meaning};
 ghost use Rattle.law_bare.specs.Agents.{SameActions};
 ghost use Rattle.law_bare.specs.Bare.{HasLikePicked, HasLikeRun, SeesNoLines};
-ghost use Rattle.law_bare.specs.Lines.{without_lines};
+ghost use Rattle.law_bare.specs.Lines.{bare_plan};
 
 /// Of two plans that are the same but for line numbers, for agents that don't see them: to each run by picks of one there is
 /// a run of the other by the same picks, with the same events but for line numbers, and they end alike.
 pub fn picked_runs_see_no_numbers<A>()
     ensures { (m : Meaning A) (bare : A → A) → SeesNoLines m bare
-        → (one two : Plan) → without_lines one ≡ without_lines two → ((k : ℕ) → bare (m.begin one k) ≡ bare (m.begin two k))
+        → (one two : Plan) → bare_plan one ≡ bare_plan two → ((k : ℕ) → bare (m.begin one k) ≡ bare (m.begin two k))
         → (picks : List ℕ) (run : List Event) → IsPickedRun one m picks run → HasLikePicked one two m picks run }
 {}
 
 /// And to each run of one, however it was picked, there is such a run of the other.
 pub fn runs_see_no_numbers<A>()
     ensures { (m : Meaning A) (bare : A → A) → SeesNoLines m bare
-        → (one two : Plan) → without_lines one ≡ without_lines two → ((k : ℕ) → bare (m.begin one k) ≡ bare (m.begin two k))
+        → (one two : Plan) → bare_plan one ≡ bare_plan two → ((k : ℕ) → bare (m.begin one k) ≡ bare (m.begin two k))
         → (run : List Event) → IsRunOf one m run → HasLikeRun one two m run }
 {}
 
 /// The same with the agents of `wdf_dev`, where each device has the same actions in the same order.
 pub fn usual_picked_runs_see_no_numbers()
-    ensures { (one two : Plan) → without_lines one ≡ without_lines two → SameActions one two
+    ensures { (one two : Plan) → bare_plan one ≡ bare_plan two → SameActions one two
         → (picks : List ℕ) (run : List Event) → IsPickedRun one agent_meaning picks run → HasLikePicked one two agent_meaning picks run }
 {}
 
 /// And of any run with them.
 pub fn usual_runs_see_no_numbers()
-    ensures { (one two : Plan) → without_lines one ≡ without_lines two → SameActions one two
+    ensures { (one two : Plan) → bare_plan one ≡ bare_plan two → SameActions one two
         → (run : List Event) → IsRunOf one agent_meaning run → HasLikeRun one two agent_meaning run }
 {}
