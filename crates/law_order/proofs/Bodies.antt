@@ -1,5 +1,5 @@
 -- The statements of a callback are the same without an `order` block, which isn't in it.
-use Rattle.std.proofs.Common.{◌≡◌, ◌⊎◌, inl, inr, ℕ, suc, Bool, true, false, List, [], ◌∷◌, ◌++◌, map, drop, refl, sym, ap, ◌∙◌, subst, append_assoc}
+use Rattle.std.proofs.Common.{◌≡◌, ℕ, Bool, true, false, List, [], ◌∷◌, ◌++◌, refl, sym, ap, ◌∙◌, append_assoc}
 use Rattle.wdf_scene.specs.declared.line.NumberedLine.{NumberedLine}
 use Rattle.wdf_scene.specs.declared.line.SceneLine.{SceneLine}
 use Rattle.wdf_scene.specs.declared.line.SceneLine.TheVariants as line
@@ -10,7 +10,6 @@ use Rattle.wdf_refusals.proofs.Every.{every_append}
 use Rattle.wdf_plan.specs.Flow.{Body, Empty, If, IfElse, Plain, Repeat, flow, is_plain, lines_of, numbered, size}
 use Rattle.wdf_plan.specs.Scripts.{statements_from}
 use Rattle.wdf_plan.proofs.Flows.{statements_flow}
-use Rattle.law_order.specs.Order.{PicksLine, order_block, picks_line}
 
 -- the first line of an `order` block
 abbrev pub begins_order : SceneLine → Bool
@@ -30,9 +29,11 @@ unfolding lines_of
 body_other Empty = tt
 body_other (Plain l is rest) = (plain_other l.form is, body_other rest)
 body_other (If h branch closing rest) = (refl, every_append IsOther (lines_of branch) (numbered closing line.End ∷ lines_of rest) (body_other branch) (refl, body_other rest))
-body_other (IfElse h first middle second closing rest) =
-    (refl, every_append IsOther (lines_of first) (numbered middle line.Else ∷ (lines_of second ++ numbered closing line.End ∷ lines_of rest)) (body_other first)
-    (refl, every_append IsOther (lines_of second) (numbered closing line.End ∷ lines_of rest) (body_other second) (refl, body_other rest)))
+body_other (IfElse h first middle second closing rest) = (
+  refl,
+  every_append IsOther (lines_of first) (numbered middle line.Else ∷ (lines_of second ++ numbered closing line.End ∷ lines_of rest)) (body_other first)
+      (refl, every_append IsOther (lines_of second) (numbered closing line.End ∷ lines_of rest) (body_other second) (refl, body_other rest)),
+)
 body_other (Repeat h body closing rest) = (refl, every_append IsOther (lines_of body) (numbered closing line.End ∷ lines_of rest) (body_other body) (refl, body_other rest))
 
 -- a list begins with these lines
@@ -54,7 +55,6 @@ comes_first (x ∷ xs) (y ∷ front) rest after o begins h e =
     record { rest = b.rest; is = ap (λ l. l ∷ front) same ∙ ap (λ ls. x ∷ ls) b.is }
 
 module _ (names : List Declaration) (vs : List (List ℕ)) (body : Body) (closing : ℕ) where
-
   with_more : (mid more : List NumberedLine) → statements_from names vs [] 0 (((lines_of body ++ numbered closing line.End ∷ []) ++ mid) ++ more) ≡ flow names vs 0 0 (size body) body
   unfolding is_end
   with_more mid more =

@@ -1,10 +1,8 @@
 -- A scene with an `order` block, and the scene without it: what is the same of both.
-use Rattle.std.proofs.Common.{◌≡◌, ◌⊎◌, inl, inr, ℕ, zero, suc, ◌+◌, ◌<◌, ◌==◌, Bool, true, false, cond, not, List, [], ◌∷◌, ◌++◌, map, length, drop, position, Option, Some, None, option_map, slice_get, refl, sym, ap, ◌∙◌, subst, arith, append_assoc, length-append}
+use Rattle.std.proofs.Common.{◌≡◌, inl, inr, ℕ, suc, ◌+◌, ◌<◌, ◌==◌, true, not, List, [], ◌∷◌, ◌++◌, map, length, drop, Option, Some, None, option_map, slice_get, refl, sym, ap, ◌∙◌, subst, arith, append_assoc, length-append}
 use Rattle.std.specs.Option.{is_none, unwrap_or}
 use Rattle.std.proofs.lemmas.Bool.{and_parts}
-use Rattle.wdf_base.specs.Same.{same_option}
 use Rattle.wdf_base.specs.declared.call.Callback.{Callback}
-use Rattle.wdf_scene.specs.declared.block.Block.{Block}
 use Rattle.wdf_scene.specs.declared.line.NumberedLine.{NumberedLine}
 use Rattle.wdf_scene.specs.declared.line.SceneExpr.{SceneExpr}
 use Rattle.wdf_scene.specs.declared.line.SceneLine.{SceneLine}
@@ -15,7 +13,6 @@ use Rattle.wdf_scene.specs.Written.{IsScene}
 use Rattle.wdf_blocks.specs.declared.attribute.Attribute.{Attribute}
 use Rattle.wdf_blocks.specs.declared.declaration.Declaration.{Declaration}
 use Rattle.wdf_blocks.specs.declared.placed.Counts.{Counts}
-use Rattle.wdf_blocks.specs.declared.placed.Placed.{Placed}
 use Rattle.wdf_blocks.specs.declared.placed.Stand.{Stand}
 use Rattle.wdf_blocks.specs.Blocks.{driver_line, form_at, given, is_driver_line, number_at}
 use Rattle.wdf_blocks.specs.Forms.{is_driver}
@@ -27,16 +24,16 @@ use Rattle.wdf_plan.specs.Flow.{HasTree}
 use Rattle.wdf_plan.specs.Scripts.{statements_from, statements_of}
 use Rattle.wdf_plan.proofs.Places.{item_there}
 use Rattle.wdf_plan.proofs.Stacking.{passed}
-use Rattle.wdf_plan.proofs.Stacks.{block_of, none_open, stand_of}
+use Rattle.wdf_plan.proofs.Stacks.{none_open, stand_of}
 use Rattle.wdf_plan.proofs.Trees.{has_tree}
 use Rattle.law_order.specs.Order.{PicksLine, order_block, picks_line}
 use Rattle.law_order.proofs.Bodies.{across}
 use Rattle.law_order.proofs.Inserted.{IsInserted, IsThere}
 use Rattle.law_order.proofs.Lists.{every_back, every_front}
-use Rattle.law_order.proofs.Moves.{IsMoved, more, moved_placed, moved_stand}
-use Rattle.law_order.proofs.Placing.{Follows, block_counts, block_of_order, block_stand, counts_after, goes_after, length_placed, picks_in, placed_both, placed_moved, stand_after, stays_before}
+use Rattle.law_order.proofs.Moves.{IsMoved, more, moved_placed}
+use Rattle.law_order.proofs.Placing.{block_counts, block_of_order, block_stand, counts_after, goes_after, length_placed, picks_in, placed_both, placed_moved, stand_after, stays_before}
 use Rattle.law_order.proofs.Scans.{assigned_across, given_shifted, place_after, place_is}
-use Rattle.law_order.proofs.Shift.{IsWider, NonePass, behind, further_is, get_shifted, less_same, option_same, position_shifted, rises, shifted}
+use Rattle.law_order.proofs.Shift.{NonePass, behind, further_is, get_shifted, less_same, option_same, position_shifted, rises, shifted}
 
 -- ---- the first three lines come before an `order` block
 
@@ -133,7 +130,7 @@ module _ (version : ℕ) (exprs : List SceneExpr) (before : List NumberedLine) (
   module _ (is : IsScene two) where
     tree_of : (k : ℕ) (c : Callback) → form_at two k ≡ Some (line.On c) → HasTree two k
     unfolding form_at
-    tree_of k c e = let l = line_there (slice_get two.lines k) (line.On c) e in has_tree two is k l.0 c l.1.0 l.1.1
+    tree_of k c e = let l = line_there (slice_get two.lines k) (line.On c) e in has_tree two is k l.0 c l.1 l.2
 
     statements_shifted : (names : List Declaration) (k : ℕ) (c : Callback) → form_at one k ≡ Some (line.On c) → statements_of two names (to k) ≡ statements_of one names k
     unfolding statements_of
@@ -203,9 +200,10 @@ module _ (version : ℕ) (exprs : List SceneExpr) (before : List NumberedLine) (
     unfolding placed_from form_at
     there_from front k o c [] e long = tt
     there_from front k o c (l ∷ ls) e long =
-        let longer : length (front ++ l ∷ []) ≡ suc k = let both = length-append front (l ∷ []) in omega (arith, both, long) in
-        (ap (option_map (λ (x : NumberedLine). x.form)) (item_there one.lines front l ls k e long),
-        there_from (front ++ l ∷ []) (suc k) (opened_by o k l.form) (counted c l.form (length l.picks)) ls (e ∙ sym (append_assoc front (l ∷ []) ls)) longer)
+        let longer : length (front ++ l ∷ []) ≡ suc k = let both = length-append front (l ∷ []) in omega (arith, both, long) in (
+          ap (option_map (λ (x : NumberedLine). x.form)) (item_there one.lines front l ls k e long),
+          there_from (front ++ l ∷ []) (suc k) (opened_by o k l.form) (counted c l.form (length l.picks)) ls (e ∙ sym (append_assoc front (l ∷ []) ls)) longer,
+        )
 
     all_there : Every (IsThere one) (placed_from 0 outside nothing before ++ placed_from start outside counts after)
     unfolding placed

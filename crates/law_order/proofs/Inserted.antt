@@ -1,5 +1,5 @@
 -- A scene with an `order` block and the scene without it, line by line; and what is gathered of their lines.
-use Rattle.std.proofs.Common.{◌≡◌, ℕ, Bool, true, List, [], ◌∷◌, ◌++◌, map, Option, Some, None, refl, sym, ap, ap₂, ◌∙◌}
+use Rattle.std.proofs.Common.{◌≡◌, ℕ, true, List, [], ◌∷◌, ◌++◌, map, Option, Some, None, refl, sym, ap, ◌∙◌}
 use Rattle.std.specs.List.{cons_option, filter_map, flat_map}
 use Rattle.std.proofs.lemmas.List.Concat.{flat_map-append}
 use Rattle.std.proofs.lemmas.List.Elements.{filter_map-append}
@@ -39,7 +39,7 @@ pub record IsInserted (to : ℕ → ℕ) (one two : Scene) : Type 0 where
 -- ---- what is gathered
 
 module _ {Y : Type 0} where
-  none_gathered : (f : Placed → Option Y) → ((p : Placed) → is_of_order p.form ≡ true → f p ≡ None) → (ps : List Placed) → Every (λ p. is_of_order p.form ≡ true) ps → filter_map f ps ≡ []
+  pub none_gathered : (f : Placed → Option Y) → ((p : Placed) → is_of_order p.form ≡ true → f p ≡ None) → (ps : List Placed) → Every (λ p. is_of_order p.form ≡ true) ps → filter_map f ps ≡ []
   none_gathered f inert [] h = refl
   none_gathered f inert (p ∷ ps) h = ap (λ o. cons_option o (filter_map f ps)) (inert p h.0) ∙ none_gathered f inert ps h.1
 

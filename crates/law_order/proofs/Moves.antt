@@ -1,11 +1,9 @@
 -- What is read of a scene's lines, and of what they declare, is the same where the lines are at other places.
-use Rattle.std.proofs.Common.{◌≡◌, ℕ, suc, ◌+◌, ◌==◌, Bool, true, false, cond, ◌&&◌, nat_lt, List, [], ◌∷◌, map, fold, Option, Some, None, is_some, option_map, refl, sym, ap, ◌∙◌}
+use Rattle.std.proofs.Common.{◌≡◌, ℕ, ◌+◌, ◌==◌, cond, ◌&&◌, nat_lt, List, [], ◌∷◌, map, fold, Option, Some, None, is_some, option_map, refl, ap, ◌∙◌}
 use Rattle.std.specs.Prelude.{option_and_then}
-use Rattle.std.specs.List.{cons_option, filter_map}
 use Rattle.wdf_base.specs.Same.{same_option}
 use Rattle.wdf_base.specs.SamePlan.{same_execution_level}
 use Rattle.wdf_base.specs.declared.declared.ExecutionLevel.{ExecutionLevel}
-use Rattle.wdf_scene.specs.declared.line.SceneExpr.{SceneExpr}
 use Rattle.wdf_scene.specs.declared.line.SceneLine.{SceneLine}
 use Rattle.wdf_scene.specs.declared.line.SceneLine.TheVariants as line
 use Rattle.wdf_scene.specs.declared.scene.Scene.{Scene}
@@ -36,6 +34,9 @@ module _ (to : ℕ → ℕ) where
 
   abbrev pub moved_declared : Declaration → Declaration
   moved_declared d = record d { at = to d.at; device = option_map to d.device }
+
+  abbrev pub moved_names : List Declaration → List Declaration
+  moved_names names = map moved_declared names
 
   -- what a line needs there
   abbrev pub moved_wanted : Wanted → Wanted

@@ -9,7 +9,7 @@ use Rattle.wdf_blocks.specs.declared.declaration.Wanted.TheVariants as wanted
 use Rattle.wdf_blocks.specs.Declarations.{found, has_name}
 use Rattle.wdf_refusals.specs.Names.{place_from}
 use Rattle.wdf_refusals.specs.Numbers.{action_of, handle_of, name_number, number_of, numbered, order_of}
-use Rattle.law_order.proofs.Moves.{found_alike, moved_declared, moved_wanted}
+use Rattle.law_order.proofs.Moves.{found_alike, moved_declared, moved_names, moved_wanted}
 
 module _ (to : ℕ → ℕ) where
   place_alike : (n : List ℕ) (k : ℕ) (ds : List Declaration) → place_from (has_name n) k (map (moved_declared to) ds) ≡ place_from (has_name n) k ds
@@ -21,22 +21,19 @@ module _ (to : ℕ → ℕ) where
   order_alike (Some d) = refl
 
   module _ (same : (a b : Option ℕ) → same_option ◌==◌ (option_map to a) (option_map to b) ≡ same_option ◌==◌ a b) (names : List Declaration) where
-    abbrev pub new_names : List Declaration
-    new_names = map (moved_declared to) names
-
-    pub name_alike : (n : List ℕ) → name_number new_names n ≡ name_number names n
+    pub name_alike : (n : List ℕ) → name_number (moved_names to names) n ≡ name_number names n
     unfolding name_number
     name_alike n = ap numbered (place_alike n 0 names)
 
-    pub number_alike : (n : List ℕ) (w : Wanted) → number_of new_names n (moved_wanted to w) ≡ number_of names n w
+    pub number_alike : (n : List ℕ) (w : Wanted) → number_of (moved_names to names) n (moved_wanted to w) ≡ number_of names n w
     unfolding number_of
     number_alike n w = ap order_of (found_alike to same names n w) ∙ order_alike (found names n w)
 
-    pub handle_alike : (n : List ℕ) (w : Wanted) → handle_of new_names n (moved_wanted to w) ≡ handle_of names n w
+    pub handle_alike : (n : List ℕ) (w : Wanted) → handle_of (moved_names to names) n (moved_wanted to w) ≡ handle_of names n w
     unfolding handle_of
     handle_alike n w = rw (number_alike n w, name_alike n) refl
 
-    pub act_alike : (device : Option ℕ) (a : SceneAction) → action_of new_names (option_map to device) a ≡ action_of names device a
+    pub act_alike : (device : Option ℕ) (a : SceneAction) → action_of (moved_names to names) (option_map to device) a ≡ action_of names device a
     unfolding action_of
     act_alike device (scene_action.Set r v) = rw (number_alike r (wanted.RegisterOf device)) refl
     act_alike device (scene_action.Raise i) = rw (handle_alike i (wanted.InterruptOf device)) refl

@@ -1,19 +1,18 @@
 -- The lines of a scene with an `order` block are those of the scene without it, at their new places, and the block's.
-use Rattle.std.proofs.Common.{◌≡◌, ℕ, zero, suc, ◌+◌, ◌==◌, Bool, true, false, cond, List, [], ◌∷◌, ◌++◌, map, length, Option, Some, None, option_map, refl, sym, ap, ◌∙◌, subst, arith}
+use Rattle.std.proofs.Common.{◌≡◌, ℕ, zero, suc, ◌+◌, ◌==◌, Bool, true, false, cond, List, [], ◌∷◌, ◌++◌, map, length, Option, Some, None, option_map, refl, sym, ap, ◌∙◌, arith}
 use Rattle.wdf_base.specs.Same.{same_option}
 use Rattle.wdf_scene.specs.declared.line.NumberedLine.{NumberedLine}
 use Rattle.wdf_scene.specs.declared.line.SceneLine.{SceneLine}
 use Rattle.wdf_scene.specs.declared.line.SceneLine.TheVariants as line
 use Rattle.wdf_blocks.specs.declared.placed.Counts.{Counts}
-use Rattle.wdf_blocks.specs.declared.placed.Placed.{Placed}
 use Rattle.wdf_blocks.specs.declared.placed.Stand.{Stand}
 use Rattle.wdf_blocks.specs.Forms.{is_app, is_class, is_device, is_object, is_post, is_register, is_statement, nodes_end}
-use Rattle.wdf_blocks.specs.Placed.{closed, closed_block, closed_in_callback, counted, opened_by, outside, placed_from, placed_line}
+use Rattle.wdf_blocks.specs.Placed.{closed_block, closed_in_callback, counted, opened_by, outside, placed_from, placed_line}
 use Rattle.wdf_refusals.specs.Numbered.{Every}
 use Rattle.law_order.specs.Order.{PicksLine, order_block, picks_line}
 use Rattle.law_order.proofs.Moves.{more, moved_placed, moved_stand}
 use Rattle.law_order.proofs.Refusals.{is_of_order}
-use Rattle.law_order.proofs.Scans.{place_after, place_is}
+use Rattle.law_order.proofs.Scans.{place_after}
 use Rattle.law_order.proofs.Shift.{further, further_is, shifted}
 
 -- ---- after some lines
@@ -45,6 +44,11 @@ counted_more n c form picks =
     ap (λ s. record (counted c form picks) { picks = s }) sum
 
 -- ---- lines at other places
+
+-- the lines from one on have these places in a row
+abbrev pub Follows : (ℕ → ℕ) → ℕ → ℕ → List NumberedLine → Type 0
+Follows to k j [] = Unit {0}
+Follows to k j (l ∷ ls) = (to k ≡ j) × Follows to (suc k) (suc j) ls
 
 module _ (to : ℕ → ℕ) (same : (a b : Option ℕ) → same_option ◌==◌ (option_map to a) (option_map to b) ≡ same_option ◌==◌ a b) where
   block_by : (o : Stand) (b : Bool) → cond b outside (record (moved_stand to o) { block = option_map to o.device }) ≡ moved_stand to (cond b outside (record o { block = o.device }))
@@ -88,12 +92,7 @@ module _ (to : ℕ → ℕ) (same : (a b : Option ℕ) → same_option ◌==◌ 
   opened_moved o k line.End = closed_by o o.callback
   opened_moved o k _ = refl
 
-  -- the lines from one on have these places in a row
-  abbrev pub Follows : ℕ → ℕ → List NumberedLine → Type 0
-  Follows k j [] = Unit {0}
-  Follows k j (l ∷ ls) = (to k ≡ j) × Follows (suc k) (suc j) ls
-
-  pub placed_moved : (n k j : ℕ) (o : Stand) (c : Counts) (ls : List NumberedLine) → Follows k j ls → placed_from j (moved_stand to o) (more n c) ls ≡ map (moved_placed to n) (placed_from k o c ls)
+  pub placed_moved : (n k j : ℕ) (o : Stand) (c : Counts) (ls : List NumberedLine) → Follows to k j ls → placed_from j (moved_stand to o) (more n c) ls ≡ map (moved_placed to n) (placed_from k o c ls)
   unfolding placed_from
   placed_moved n k j o c [] h = refl
   placed_moved n k j o c (l ∷ ls) h =
@@ -112,19 +111,21 @@ module _ (to : ℕ → ℕ) where
   stays_from k zero g (l ∷ ls) h e = absurd (omega (arith, e))
   stays_from k (suc c) g (l ∷ ls) h e =
       let here : k + 0 ≡ k = omega arith in
-      let first : to (k + 0) ≡ k + shifted (suc c) g 0 = h 0 in
-      (sym (ap to here) ∙ first ∙ here,
-      stays_from (suc k) c g ls
-      (λ i. let next : suc k + i ≡ k + suc i = omega arith in let step : to (k + suc i) ≡ k + suc (shifted c g i) = h (suc i) in let last : k + suc (shifted c g i) ≡ suc k + shifted c g i = omega arith in ap to next ∙ step ∙ last)
-      (omega (arith, e)))
+      let first : to (k + 0) ≡ k + shifted (suc c) g 0 = h 0 in (
+        sym (ap to here) ∙ first ∙ here,
+        stays_from (suc k) c g ls
+            (λ i. let next : suc k + i ≡ k + suc i = omega arith in let step : to (k + suc i) ≡ k + suc (shifted c g i) = h (suc i) in let last : k + suc (shifted c g i) ≡ suc k + shifted c g i = omega arith in ap to next ∙ step ∙ last)
+            (omega (arith, e)),
+      )
 
   goes_from : (k j : ℕ) (ls : List NumberedLine) → ((i : ℕ) → to (k + i) ≡ j + i) → Follows to k j ls
   goes_from k j [] h = tt
   goes_from k j (l ∷ ls) h =
       let here : k + 0 ≡ k = omega arith in
-      let there : j + 0 ≡ j = omega arith in
-      (sym (ap to here) ∙ h 0 ∙ there,
-      goes_from (suc k) (suc j) ls (λ i. let next : suc k + i ≡ k + suc i = omega arith in let last : j + suc i ≡ suc j + i = omega arith in ap to next ∙ h (suc i) ∙ last))
+      let there : j + 0 ≡ j = omega arith in (
+        sym (ap to here) ∙ h 0 ∙ there,
+        goes_from (suc k) (suc j) ls (λ i. let next : suc k + i ≡ k + suc i = omega arith in let last : j + suc i ≡ suc j + i = omega arith in ap to next ∙ h (suc i) ∙ last),
+      )
 
 pub stays_before : (g : ℕ) (ls : List NumberedLine) → Follows (shifted (length ls) g) 0 0 ls
 stays_before g ls = stays_from (shifted (length ls) g) 0 (length ls) g ls (λ i. let none' : 0 + i ≡ i = omega arith in let also : shifted (length ls) g i ≡ 0 + shifted (length ls) g i = omega arith in ap (shifted (length ls) g) none' ∙ also) refl

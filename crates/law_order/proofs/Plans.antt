@@ -1,17 +1,15 @@
 -- A scene with an `order` block is refused as the scene without it, but for the limit of picks, and its plan is the same but for picks.
-use Rattle.std.proofs.Common.{◌≡◌, ℕ, ◌+◌, ◌≤◌, Bool, true, false, nat_lt, List, [], ◌∷◌, ◌++◌, map, flat_map, Option, Some, None, option_map, refl, sym, ap, ◌∙◌, subst, arith}
+use Rattle.std.proofs.Common.{◌≡◌, ℕ, ◌+◌, true, false, nat_lt, List, [], ◌∷◌, ◌++◌, map, flat_map, Option, Some, None, option_map, refl, sym, ap, ◌∙◌, subst, arith}
 use Rattle.std.specs.List.{cons_option, filter_map}
 use Rattle.std.proofs.lemmas.Bool.Decides.{nat_tests}
 use Rattle.std.proofs.lemmas.List.{map-append}
 use Rattle.std.proofs.lemmas.List.Elements.{filter_map-append}
 use Rattle.wdf_base.specs.declared.declared.Declared.TheVariants as declared
-use Rattle.wdf_base.specs.declared.plan.Plan.{Plan}
 use Rattle.wdf_scene.specs.declared.line.SceneLine.{SceneLine}
 use Rattle.wdf_scene.specs.declared.line.SceneLine.TheVariants as line
 use Rattle.wdf_scene.specs.declared.scene.Scene.{Scene}
 use Rattle.wdf_blocks.specs.declared.declaration.Declaration.{Declaration}
 use Rattle.wdf_blocks.specs.declared.placed.Placed.{Placed}
-use Rattle.wdf_blocks.specs.Blocks.{form_at}
 use Rattle.wdf_blocks.specs.Declarations.{declarations, declared_by, declared_on}
 use Rattle.wdf_blocks.specs.Placed.{placed}
 use Rattle.wdf_blocks.specs.Variables.{variables_at}
@@ -23,9 +21,9 @@ use Rattle.wdf_plan.specs.Parts.{app_agent, class_on, device_agent, line_picks, 
 use Rattle.wdf_plan.specs.Plans.{all_agents, all_objects, name_in, plan_of, plan_with}
 use Rattle.wdf_plan.specs.Scripts.{nodes_on, script_on}
 use Rattle.law_bare.proofs.Lists.{mapped_same}
-use Rattle.law_order.proofs.Inserted.{IsInserted, IsThere, flat, gathered, none_gathered}
+use Rattle.law_order.proofs.Inserted.{IsInserted, flat, gathered, none_gathered}
 use Rattle.law_order.proofs.Lists.{every_back, every_front, none_some}
-use Rattle.law_order.proofs.Moves.{declares_moved, moved_declared, moved_placed, variables_alike}
+use Rattle.law_order.proofs.Moves.{declares_moved, moved_declared, moved_names, moved_placed, variables_alike}
 use Rattle.law_order.proofs.Parts.{app_agent_alike, class_alike, device_agent_alike, no_app, no_class, no_device, no_object, no_pnp, no_register, no_target, no_when, object_on_alike, pnp_alike, register_alike, target_agent_alike, when_alike}
 use Rattle.law_order.proofs.Refusals.{is_of_order, order_refused, refused_after, refused_before}
 use Rattle.law_order.proofs.Scripts.{no_nodes_on, no_script, nodes_on_alike, script_alike}
@@ -72,21 +70,18 @@ module _ (to : ℕ → ℕ) where
     abbrev names : List Declaration
     names = declarations one
 
-    abbrev new_names : List Declaration
-    new_names = map (moved_declared to) names
-
     at_before : (n : ℕ) (p : Placed) → (over_picks (moved_placed to n p) ≡ false → over_picks p ≡ false) → refused_at two (moved_placed to n p) ≡ None → refused_at one p ≡ None
     unfolding refused_at
     at_before n p h e =
         refused_before to one two i.moved names (variables_at one p) n p h
-        (ap (λ vs. refused two new_names vs (moved_placed to n p)) (sym (variables_alike to one two i.moved n p))
+        (ap (λ vs. refused two (moved_names to names) vs (moved_placed to n p)) (sym (variables_alike to one two i.moved n p))
         ∙ ap (λ ds. refused two ds (variables_at two (moved_placed to n p)) (moved_placed to n p)) (sym names_alike) ∙ e)
 
     at_after : (n : ℕ) (p : Placed) → over_picks (moved_placed to n p) ≡ false → refused_at one p ≡ None → refused_at two (moved_placed to n p) ≡ None
     unfolding refused_at
     at_after n p h e =
         ap (λ ds. refused two ds (variables_at two (moved_placed to n p)) (moved_placed to n p)) names_alike
-        ∙ ap (λ vs. refused two new_names vs (moved_placed to n p)) (variables_alike to one two i.moved n p)
+        ∙ ap (λ vs. refused two (moved_names to names) vs (moved_placed to n p)) (variables_alike to one two i.moved n p)
         ∙ refused_after to one two i.moved names (variables_at one p) n p h e
 
     fewer : (n : ℕ) (p : Placed) → over_picks (moved_placed to n p) ≡ false → over_picks p ≡ false
@@ -142,48 +137,48 @@ module _ (to : ℕ → ℕ) where
 
     -- ---- the plan
 
-    objects_alike : all_objects two new_names ≡ all_objects one names
+    objects_alike : all_objects two (moved_names to names) ≡ all_objects one names
     unfolding all_objects
     objects_alike =
-        ap (λ os. declared.Driver ∷ os) (gathered to one two i (object_on two new_names) (object_on one names) (λ n p there. object_on_alike to one two i names n p) (λ p h. no_object new_names two p p.at p.form h))
+        ap (λ os. declared.Driver ∷ os) (gathered to one two i (object_on two (moved_names to names)) (object_on one names) (λ n p there. object_on_alike to one two i names n p) (λ p h. no_object (moved_names to names) two p p.at p.form h))
 
-    apps_alike : filter_map (λ p. app_agent two new_names p p.form) (placed two) ≡ filter_map (λ p. app_agent one names p p.form) (placed one)
-    apps_alike = gathered to one two i (λ p. app_agent two new_names p p.form) (λ p. app_agent one names p p.form) (λ n p there. app_agent_alike to one two i names n p p.form) (λ p h. no_app new_names two p p.form h)
+    apps_alike : filter_map (λ p. app_agent two (moved_names to names) p p.form) (placed two) ≡ filter_map (λ p. app_agent one names p p.form) (placed one)
+    apps_alike = gathered to one two i (λ p. app_agent two (moved_names to names) p p.form) (λ p. app_agent one names p p.form) (λ n p there. app_agent_alike to one two i names n p p.form) (λ p h. no_app (moved_names to names) two p p.form h)
 
-    devices_alike : filter_map (λ p. device_agent two new_names p p.form) (placed two) ≡ filter_map (λ p. device_agent one names p p.form) (placed one)
-    devices_alike = gathered to one two i (λ p. device_agent two new_names p p.form) (λ p. device_agent one names p p.form) (λ n p there. device_agent_alike to one two i names n p p.form) (λ p h. no_device new_names two p p.form h)
+    devices_alike : filter_map (λ p. device_agent two (moved_names to names) p p.form) (placed two) ≡ filter_map (λ p. device_agent one names p p.form) (placed one)
+    devices_alike = gathered to one two i (λ p. device_agent two (moved_names to names) p p.form) (λ p. device_agent one names p p.form) (λ n p there. device_agent_alike to one two i names n p p.form) (λ p h. no_device (moved_names to names) two p p.form h)
 
-    targets_alike : filter_map (λ p. target_agent new_names p.form) (placed two) ≡ filter_map (λ p. target_agent names p.form) (placed one)
-    targets_alike = gathered to one two i (λ p. target_agent new_names p.form) (λ p. target_agent names p.form) (λ n p there. target_agent_alike to i.moved.same names p.form) (λ p h. no_target new_names p.form h)
+    targets_alike : filter_map (λ p. target_agent (moved_names to names) p.form) (placed two) ≡ filter_map (λ p. target_agent names p.form) (placed one)
+    targets_alike = gathered to one two i (λ p. target_agent (moved_names to names) p.form) (λ p. target_agent names p.form) (λ n p there. target_agent_alike to i.moved.same names p.form) (λ p h. no_target (moved_names to names) p.form h)
 
-    agents_alike : all_agents two new_names ≡ all_agents one names
+    agents_alike : all_agents two (moved_names to names) ≡ all_agents one names
     unfolding all_agents
     agents_alike = rw (apps_alike, devices_alike, targets_alike) refl
 
-    classes_alike : filter_map (λ p. class_on two new_names p p.form) (placed two) ≡ filter_map (λ p. class_on one names p p.form) (placed one)
-    classes_alike = gathered to one two i (λ p. class_on two new_names p p.form) (λ p. class_on one names p p.form) (λ n p there. class_alike to one two i names n p p.form) (λ p h. no_class new_names two p p.form h)
+    classes_alike : filter_map (λ p. class_on two (moved_names to names) p p.form) (placed two) ≡ filter_map (λ p. class_on one names p p.form) (placed one)
+    classes_alike = gathered to one two i (λ p. class_on two (moved_names to names) p p.form) (λ p. class_on one names p p.form) (λ n p there. class_alike to one two i names n p p.form) (λ p h. no_class (moved_names to names) two p p.form h)
 
-    registers_alike : filter_map (λ p. register_on new_names p p.form) (placed two) ≡ filter_map (λ p. register_on names p p.form) (placed one)
-    registers_alike = gathered to one two i (λ p. register_on new_names p p.form) (λ p. register_on names p p.form) (λ n p there. register_alike to i.moved.same names n p p.form) (λ p h. no_register new_names p p.form h)
+    registers_alike : filter_map (λ p. register_on (moved_names to names) p p.form) (placed two) ≡ filter_map (λ p. register_on names p p.form) (placed one)
+    registers_alike = gathered to one two i (λ p. register_on (moved_names to names) p p.form) (λ p. register_on names p p.form) (λ n p there. register_alike to i.moved.same names n p p.form) (λ p h. no_register (moved_names to names) p p.form h)
 
-    whens_alike : filter_map (λ p. when_on new_names p.number p.stand.device p.form) (placed two) ≡ filter_map (λ p. when_on names p.number p.stand.device p.form) (placed one)
+    whens_alike : filter_map (λ p. when_on (moved_names to names) p.number p.stand.device p.form) (placed two) ≡ filter_map (λ p. when_on names p.number p.stand.device p.form) (placed one)
     whens_alike =
-        gathered to one two i (λ p. when_on new_names p.number p.stand.device p.form) (λ p. when_on names p.number p.stand.device p.form) (λ n p there. when_alike to i.moved.same names p.number p.stand.device p.form)
-        (λ p h. no_when new_names p.number p.stand.device p.form h)
+        gathered to one two i (λ p. when_on (moved_names to names) p.number p.stand.device p.form) (λ p. when_on names p.number p.stand.device p.form) (λ n p there. when_alike to i.moved.same names p.number p.stand.device p.form)
+        (λ p h. no_when (moved_names to names) p.number p.stand.device p.form h)
 
-    posts_alike : filter_map (λ p. pnp_post new_names p.number p.form) (placed two) ≡ filter_map (λ p. pnp_post names p.number p.form) (placed one)
-    posts_alike = gathered to one two i (λ p. pnp_post new_names p.number p.form) (λ p. pnp_post names p.number p.form) (λ n p there. pnp_alike to i.moved.same names p.number p.form) (λ p h. no_pnp new_names p.number p.form h)
+    posts_alike : filter_map (λ p. pnp_post (moved_names to names) p.number p.form) (placed two) ≡ filter_map (λ p. pnp_post names p.number p.form) (placed one)
+    posts_alike = gathered to one two i (λ p. pnp_post (moved_names to names) p.number p.form) (λ p. pnp_post names p.number p.form) (λ n p there. pnp_alike to i.moved.same names p.number p.form) (λ p h. no_pnp (moved_names to names) p.number p.form h)
 
-    exprs_alike : flat_map (nodes_on two new_names) (placed two) ≡ flat_map (nodes_on one names) (placed one)
-    exprs_alike = flat to one two i (nodes_on two new_names) (nodes_on one names) (λ n p. nodes_on_alike to one two i names n p) (λ p h. no_nodes_on two new_names p h)
+    exprs_alike : flat_map (nodes_on two (moved_names to names)) (placed two) ≡ flat_map (nodes_on one names) (placed one)
+    exprs_alike = flat to one two i (nodes_on two (moved_names to names)) (nodes_on one names) (λ n p. nodes_on_alike to one two i names n p) (λ p h. no_nodes_on two (moved_names to names) p h)
 
-    scripts_alike : filter_map (λ p. script_on two new_names p p.form) (placed two) ≡ filter_map (λ p. script_on one names p p.form) (placed one)
-    scripts_alike = gathered to one two i (λ p. script_on two new_names p p.form) (λ p. script_on one names p p.form) (λ n p there. script_alike to one two i names n p p.form there) (λ p h. no_script two new_names p p.form h)
+    scripts_alike : filter_map (λ p. script_on two (moved_names to names) p p.form) (placed two) ≡ filter_map (λ p. script_on one names p p.form) (placed one)
+    scripts_alike = gathered to one two i (λ p. script_on two (moved_names to names) p p.form) (λ p. script_on one names p p.form) (λ n p there. script_alike to one two i names n p p.form there) (λ p h. no_script two (moved_names to names) p p.form h)
 
-    words_alike : map name_in new_names ≡ map name_in names
+    words_alike : map name_in (moved_names to names) ≡ map name_in names
     words_alike = mapped_same (moved_declared to) name_in name_in (λ d. refl) names
 
-    with_alike : plan_with two new_names ≡ record (plan_with one names) { picks = flat_map line_picks two.lines }
+    with_alike : plan_with two (moved_names to names) ≡ record (plan_with one names) { picks = flat_map line_picks two.lines }
     unfolding plan_with
     with_alike =
         rw (i.first, i.second, i.third, words_alike, objects_alike, classes_alike, registers_alike, whens_alike, posts_alike, agents_alike, exprs_alike, scripts_alike) refl

@@ -1,5 +1,5 @@
 -- Whether a line is refused is the same where the lines are at other places, but for the limit of picks.
-use Rattle.std.proofs.Common.{◌≡◌, ℕ, ◌-◌, Bool, true, false, cond, not, ◌&&◌, ◌||◌, nat_le, nat_lt, arith, List, [], ◌∷◌, map, find, take, drop, Option, Some, None, is_some, option_map, refl, sym, ap, ◌∙◌}
+use Rattle.std.proofs.Common.{◌≡◌, ℕ, ◌-◌, Bool, true, false, cond, not, ◌&&◌, ◌||◌, nat_le, arith, List, [], ◌∷◌, find, take, drop, Option, Some, None, is_some, option_map, refl, sym, ap, ◌∙◌}
 use Rattle.std.specs.Prelude.{option_and_then}
 use Rattle.std.specs.List.{list_any}
 use Rattle.std.specs.Option.{option_or}
@@ -27,10 +27,10 @@ use Rattle.wdf_blocks.specs.declared.declaration.Wanted.{Wanted}
 use Rattle.wdf_blocks.specs.declared.declaration.Wanted.TheVariants as wanted
 use Rattle.wdf_blocks.specs.declared.placed.Placed.{Placed}
 use Rattle.wdf_blocks.specs.Attribute.{attribute_of, is_device_wide}
-use Rattle.wdf_blocks.specs.Blocks.{form_at, given, has_given, number_at}
-use Rattle.wdf_blocks.specs.Declarations.{declarations, has_name, is_parent_at, stands}
+use Rattle.wdf_blocks.specs.Blocks.{form_at, given, has_given}
+use Rattle.wdf_blocks.specs.Declarations.{has_name, is_parent_at, stands}
 use Rattle.wdf_blocks.specs.Forms.{assigned_name, is_app, is_class, is_device, is_post, is_register, is_statement, nodes_end}
-use Rattle.wdf_blocks.specs.Variables.{variable_number, variables_at}
+use Rattle.wdf_blocks.specs.Variables.{variable_number}
 use Rattle.wdf_refusals.specs.declared.limit.Limit.{Limit}
 use Rattle.wdf_refusals.specs.declared.limit.Limit.TheVariants as limit
 use Rattle.wdf_refusals.specs.declared.limit.TheConstants.{LIMITS}
@@ -40,7 +40,7 @@ use Rattle.wdf_refusals.specs.First.{if_holds, if_over, if_twice, refused}
 use Rattle.wdf_refusals.specs.Limits.{exceeded, exceeds, over_cpus, over_depth, over_level, over_limit, over_objects, over_parallel, over_picks, over_ticks}
 use Rattle.wdf_refusals.specs.Rows.{block_is, earlier_line, first_line, given_line, has_callbacks, home, incompatible_level, is_deferred_block, is_timer_block, is_working_block, lacks_parent, no_parent, nodes_of, reserved_line, taken_line, twice_assigned, twice_attribute, twice_declared, twice_given, twice_named, unknown_action, unknown_argument, unknown_class, unknown_name, unknown_node, unknown_parent, unknown_word, unlike_block, unlike_parent, wrong_callback}
 use Rattle.law_bare.proofs.Lists.{any_map, any_same, find_map}
-use Rattle.law_order.proofs.Moves.{IsMoved, block_alike, has_given_alike, moved_declared, moved_placed, moved_wanted, objects_alike, parent_level_alike, stands_alike}
+use Rattle.law_order.proofs.Moves.{IsMoved, block_alike, has_given_alike, moved_declared, moved_names, moved_placed, moved_wanted, objects_alike, parent_level_alike, stands_alike}
 
 -- ---- limits
 
@@ -72,6 +72,11 @@ none_within None None (Some c) d e f h z = absurd (let w : ⊥ = cc in w)
 none_within None None None (Some d) e f h z = absurd (let w : ⊥ = cc in w)
 none_within None None None None e f h z = rw (h refl) z
 
+limit_none : (s : Scene) (names : List Declaration) (variables : List (List ℕ)) (p : Placed) (d e : Option PlanRefusal) → (d ≡ None → e ≡ None) → with_limit s names variables p d ≡ None → with_limit s names variables p e ≡ None
+limit_none s names variables p d e h z =
+    none_within (if_holds (unknown_name s names variables p) (refusal.UnknownName p.number)) (if_twice p.number (twice_named s names p)) (if_holds (wrong_callback s p p.form) (refusal.WrongCallback p.number)) d e
+    (option_or (if_holds (incompatible_level s names p p.form) (refusal.IncompatibleLevel p.number)) (if_holds (no_parent names p.form) (refusal.NoParent p.number))) h z
+
 over_none : (n : ℕ) (o q : Option Limit) → (o ≡ None → q ≡ None) → if_over n o ≡ None → if_over n q ≡ None
 over_none n (Some l) q h z = absurd (let w : ⊥ = cc in w)
 over_none n None q h z = rw (h refl) refl
@@ -79,34 +84,31 @@ over_none n None q h z = rw (h refl) refl
 -- ---- names that stand for the same
 
 module _ (to : ℕ → ℕ) (one two : Scene) (m : IsMoved to one two) (names : List Declaration) where
-  abbrev new_names : List Declaration
-  new_names = map (moved_declared to) names
-
-  same : (n : List ℕ) (w : Wanted) → stands new_names n (moved_wanted to w) ≡ stands names n w
+  same : (n : List ℕ) (w : Wanted) → stands (moved_names to names) n (moved_wanted to w) ≡ stands names n w
   same n w = stands_alike to m.same names n w
 
-  action_alike : (device : Option ℕ) (a : SceneAction) → unknown_action new_names (option_map to device) a ≡ unknown_action names device a
+  action_alike : (device : Option ℕ) (a : SceneAction) → unknown_action (moved_names to names) (option_map to device) a ≡ unknown_action names device a
   unfolding unknown_action
   action_alike device (action.Set r v) = ap not (same r (wanted.RegisterOf device))
   action_alike device (action.Raise i) = ap not (same i (wanted.InterruptOf device))
   action_alike device (action.Lower i) = ap not (same i (wanted.InterruptOf device))
 
-  class_alike : (s : Sort) (n : List ℕ) → unknown_class new_names s n ≡ unknown_class names s n
+  class_alike : (s : Sort) (n : List ℕ) → unknown_class (moved_names to names) s n ≡ unknown_class names s n
   unfolding unknown_class
   class_alike (sort.Class k) n = ap not (same n (wanted.ClassOf k))
   class_alike _ n = refl
 
-  argument_alike : (s : Sort) (a : SceneArg) → unknown_argument new_names s a ≡ unknown_argument names s a
+  argument_alike : (s : Sort) (a : SceneArg) → unknown_argument (moved_names to names) s a ≡ unknown_argument names s a
   unfolding unknown_argument
   argument_alike s (arg.OfClass n) = class_alike s n
   argument_alike s _ = refl
 
-  parent_alike : (parent : Option (List ℕ)) → unknown_parent new_names parent ≡ unknown_parent names parent
+  parent_alike : (parent : Option (List ℕ)) → unknown_parent (moved_names to names) parent ≡ unknown_parent names parent
   unfolding unknown_parent
   parent_alike None = refl
   parent_alike (Some n) = ap not (same n wanted.Anything)
 
-  word_alike : (device : Option ℕ) (form : SceneLine) → unknown_word new_names (option_map to device) form ≡ unknown_word names device form
+  word_alike : (device : Option ℕ) (form : SceneLine) → unknown_word (moved_names to names) (option_map to device) form ≡ unknown_word names device form
   unfolding unknown_word
   word_alike device (line.DeferredClass n k parent) = parent_alike parent
   word_alike device (line.When access r a after) = rw (same r (wanted.RegisterOf device), action_alike device a) refl
@@ -120,16 +122,16 @@ module _ (to : ℕ → ℕ) (one two : Scene) (m : IsMoved to one two) (names : 
   word_alike device (line.Call k into a b c) = rw (argument_alike (signature_of k).a a, argument_alike (signature_of k).b b, argument_alike (signature_of k).c c) refl
   word_alike device _ = refl
 
-  node_alike : (variables : List (List ℕ)) (e : SceneExpr) → unknown_node new_names variables e ≡ unknown_node names variables e
+  node_alike : (variables : List (List ℕ)) (e : SceneExpr) → unknown_node (moved_names to names) variables e ≡ unknown_node names variables e
   unfolding unknown_node
   node_alike variables (expr.Named n) = ap (λ b. not (is_some (variable_number variables n)) && not b) (same n wanted.Object)
   node_alike variables _ = refl
 
-  lacks_alike : (parent : Option (List ℕ)) → lacks_parent new_names parent ≡ lacks_parent names parent
+  lacks_alike : (parent : Option (List ℕ)) → lacks_parent (moved_names to names) parent ≡ lacks_parent names parent
   lacks_alike None = refl
   lacks_alike (Some n) = rw (same n wanted.Anything, same n wanted.Parent) refl
 
-  no_parent_alike : (form : SceneLine) → no_parent new_names form ≡ no_parent names form
+  no_parent_alike : (form : SceneLine) → no_parent (moved_names to names) form ≡ no_parent names form
   unfolding no_parent
   no_parent_alike (line.DeferredClass n k parent) = lacks_alike parent
   no_parent_alike _ = refl
@@ -138,12 +140,12 @@ module _ (to : ℕ → ℕ) (one two : Scene) (m : IsMoved to one two) (names : 
   unfolding nodes_of
   nodes_alike n p = ap (λ es. take (nodes_end p.counts.nodes p.form - p.counts.nodes) (drop p.counts.nodes es)) m.exprs
 
-  unknown_alike : (variables : List (List ℕ)) (n : ℕ) (p : Placed) → unknown_name two new_names variables (moved_placed to n p) ≡ unknown_name one names variables p
+  unknown_alike : (variables : List (List ℕ)) (n : ℕ) (p : Placed) → unknown_name two (moved_names to names) variables (moved_placed to n p) ≡ unknown_name one names variables p
   unfolding unknown_name
   unknown_alike variables n p =
-      ap (λ b. b || list_any (unknown_node new_names variables) (nodes_of two (moved_placed to n p))) (word_alike p.stand.device p.form)
+      ap (λ b. b || list_any (unknown_node (moved_names to names) variables) (nodes_of two (moved_placed to n p))) (word_alike p.stand.device p.form)
       ∙ ap (λ b. unknown_word names p.stand.device p.form || b)
-      (any_same (unknown_node new_names variables) (unknown_node names variables) (node_alike variables) (nodes_of two (moved_placed to n p)) ∙ ap (list_any (unknown_node names variables)) (nodes_alike n p))
+      (any_same (unknown_node (moved_names to names) variables) (unknown_node names variables) (node_alike variables) (nodes_of two (moved_placed to n p)) ∙ ap (list_any (unknown_node names variables)) (nodes_alike n p))
 
   -- ---- what a line's block is
 
@@ -167,25 +169,25 @@ module _ (to : ℕ → ℕ) (one two : Scene) (m : IsMoved to one two) (names : 
   callback_alike n p (line.DeferredClass i k parent) = ap not (has_given_alike to one two m p.at (attribute.On (function_of k)))
   callback_alike n p _ = refl
 
-  unlike_parent_alike : (k : DeferredKind) (n : List ℕ) → unlike_parent two new_names k n ≡ unlike_parent one names k n
+  unlike_parent_alike : (k : DeferredKind) (n : List ℕ) → unlike_parent two (moved_names to names) k n ≡ unlike_parent one names k n
   unfolding unlike_parent
   unlike_parent_alike k n =
-      ap (λ b. b && not (list_any (is_parent_at two (serial_level k) n) new_names)) (same n wanted.Parent)
+      ap (λ b. b && not (list_any (is_parent_at two (serial_level k) n) (moved_names to names))) (same n wanted.Parent)
       ∙ ap (λ b. stands names n wanted.Parent && not b) (any_map (moved_declared to) (is_parent_at one (serial_level k) n) (is_parent_at two (serial_level k) n) (parent_level_alike to one two m (serial_level k) n) names)
 
-  unlike_alike : (form : SceneLine) → unlike_block two new_names form ≡ unlike_block one names form
+  unlike_alike : (form : SceneLine) → unlike_block two (moved_names to names) form ≡ unlike_block one names form
   unfolding unlike_block
   unlike_alike (line.DeferredClass n k (Some parent)) = unlike_parent_alike k parent
   unlike_alike _ = refl
 
-  incompatible_alike : (n : ℕ) (p : Placed) (form : SceneLine) → incompatible_level two new_names (moved_placed to n p) form ≡ incompatible_level one names p form
+  incompatible_alike : (n : ℕ) (p : Placed) (form : SceneLine) → incompatible_level two (moved_names to names) (moved_placed to n p) form ≡ incompatible_level one names p form
   unfolding incompatible_level
-  incompatible_alike n p line.Serialize = block_is_alike (unlike_block two new_names) (unlike_block one names) unlike_alike p.stand.block
+  incompatible_alike n p line.Serialize = block_is_alike (unlike_block two (moved_names to names)) (unlike_block one names) unlike_alike p.stand.block
   incompatible_alike n p _ = refl
 
   -- ---- names and attributes that are given twice
 
-  first_line_alike : (n : List ℕ) → first_line new_names n ≡ option_map (moved_declared to) (first_line names n)
+  first_line_alike : (n : List ℕ) → first_line (moved_names to names) n ≡ option_map (moved_declared to) (first_line names n)
   unfolding first_line
   first_line_alike n = find_map (moved_declared to) (has_name n) (has_name n) (λ d. refl) names
 
@@ -219,66 +221,66 @@ module _ (to : ℕ → ℕ) (one two : Scene) (m : IsMoved to one two) (names : 
   attribute_alike n p None = refl
   attribute_alike n p (Some a) = twice_given_alike n p a
 
-  assigned_twice : (n : ℕ) (p : Placed) (o : Option (List ℕ)) → twice_assigned two new_names (moved_placed to n p) o ≡ twice_assigned one names p o
+  assigned_twice : (n : ℕ) (p : Placed) (o : Option (List ℕ)) → twice_assigned two (moved_names to names) (moved_placed to n p) o ≡ twice_assigned one names p o
   assigned_twice n p None = attribute_alike n p (attribute_of p.form)
   assigned_twice n p (Some x) = ap (taken_line x) (first_line_alike x) ∙ taken_alike x (first_line names x)
 
-  declared_twice : (n : ℕ) (p : Placed) (o : Option (List ℕ)) → twice_declared two new_names (moved_placed to n p) o ≡ twice_declared one names p o
+  declared_twice : (n : ℕ) (p : Placed) (o : Option (List ℕ)) → twice_declared two (moved_names to names) (moved_placed to n p) o ≡ twice_declared one names p o
   declared_twice n p None = assigned_twice n p (assigned_name p.form)
   declared_twice n p (Some x) = ap (earlier_line (to p.at) x) (first_line_alike x) ∙ earlier_alike p.at x (first_line names x)
 
-  twice_alike : (n : ℕ) (p : Placed) → twice_named two new_names (moved_placed to n p) ≡ twice_named one names p
+  twice_alike : (n : ℕ) (p : Placed) → twice_named two (moved_names to names) (moved_placed to n p) ≡ twice_named one names p
   unfolding twice_named
   twice_alike n p = declared_twice n p (declared_name p.form)
 
   -- ---- limits
 
-  over_objects_alike : (form : SceneLine) → over_objects new_names form ≡ over_objects names form
+  over_objects_alike : (form : SceneLine) → over_objects (moved_names to names) form ≡ over_objects names form
   unfolding over_objects
   over_objects_alike (line.Objects n) = ap (λ c. not (is_from 1 4096 n) || nat_le n c) (objects_alike to names)
   over_objects_alike _ = refl
 
-  fewer : (variables : List (List ℕ)) (n : ℕ) (p : Placed) → (over_picks (moved_placed to n p) ≡ false → over_picks p ≡ false) → (l : Limit) → exceeds new_names variables (moved_placed to n p) l ≡ false → exceeds names variables p l ≡ false
+  fewer : (variables : List (List ℕ)) (n : ℕ) (p : Placed) → (over_picks (moved_placed to n p) ≡ false → over_picks p ≡ false) → (l : Limit) → exceeds (moved_names to names) variables (moved_placed to n p) l ≡ false → exceeds names variables p l ≡ false
   unfolding exceeds
   fewer variables n p h limit.Objects e = sym (over_objects_alike p.form) ∙ e
   fewer variables n p h limit.Picks e = h e
   fewer variables n p h _ e = e
 
-  further : (variables : List (List ℕ)) (n : ℕ) (p : Placed) → over_picks (moved_placed to n p) ≡ false → (l : Limit) → exceeds names variables p l ≡ false → exceeds new_names variables (moved_placed to n p) l ≡ false
+  further : (variables : List (List ℕ)) (n : ℕ) (p : Placed) → over_picks (moved_placed to n p) ≡ false → (l : Limit) → exceeds names variables p l ≡ false → exceeds (moved_names to names) variables (moved_placed to n p) l ≡ false
   unfolding exceeds
   further variables n p h limit.Objects e = over_objects_alike p.form ∙ e
   further variables n p h limit.Picks e = h
   further variables n p h _ e = e
 
-  none_fewer : (variables : List (List ℕ)) (n : ℕ) (p : Placed) → (over_picks (moved_placed to n p) ≡ false → over_picks p ≡ false) → exceeded new_names variables (moved_placed to n p) ≡ None → exceeded names variables p ≡ None
+  none_fewer : (variables : List (List ℕ)) (n : ℕ) (p : Placed) → (over_picks (moved_placed to n p) ≡ false → over_picks p ≡ false) → exceeded (moved_names to names) variables (moved_placed to n p) ≡ None → exceeded names variables p ≡ None
   unfolding exceeded
-  none_fewer variables n p h = find_none (exceeds new_names variables (moved_placed to n p)) (exceeds names variables p) (fewer variables n p h) LIMITS
+  none_fewer variables n p h = find_none (exceeds (moved_names to names) variables (moved_placed to n p)) (exceeds names variables p) (fewer variables n p h) LIMITS
 
-  none_further : (variables : List (List ℕ)) (n : ℕ) (p : Placed) → over_picks (moved_placed to n p) ≡ false → exceeded names variables p ≡ None → exceeded new_names variables (moved_placed to n p) ≡ None
+  none_further : (variables : List (List ℕ)) (n : ℕ) (p : Placed) → over_picks (moved_placed to n p) ≡ false → exceeded names variables p ≡ None → exceeded (moved_names to names) variables (moved_placed to n p) ≡ None
   unfolding exceeded
-  none_further variables n p h = find_none (exceeds names variables p) (exceeds new_names variables (moved_placed to n p)) (further variables n p h) LIMITS
+  none_further variables n p h = find_none (exceeds names variables p) (exceeds (moved_names to names) variables (moved_placed to n p)) (further variables n p h) LIMITS
 
   -- ---- a line is refused
 
-  parts_alike : (variables : List (List ℕ)) (n : ℕ) (p : Placed) (o : Option PlanRefusal) → with_limit two new_names variables (moved_placed to n p) o ≡ with_limit one names variables p o
+  parts_alike : (variables : List (List ℕ)) (n : ℕ) (p : Placed) (o : Option PlanRefusal) → with_limit two (moved_names to names) variables (moved_placed to n p) o ≡ with_limit one names variables p o
   parts_alike variables n p o = rw (unknown_alike variables n p, twice_alike n p, callback_alike n p p.form, incompatible_alike n p p.form, no_parent_alike p.form) refl
 
   -- a line that isn't refused at its new place isn't refused
-  pub refused_before : (variables : List (List ℕ)) (n : ℕ) (p : Placed) → (over_picks (moved_placed to n p) ≡ false → over_picks p ≡ false) → refused two new_names variables (moved_placed to n p) ≡ None → refused one names variables p ≡ None
+  pub refused_before : (variables : List (List ℕ)) (n : ℕ) (p : Placed) → (over_picks (moved_placed to n p) ≡ false → over_picks p ≡ false) → refused two (moved_names to names) variables (moved_placed to n p) ≡ None → refused one names variables p ≡ None
   unfolding refused
   refused_before variables n p h e =
       let q = moved_placed to n p in
-      let here : with_limit one names variables p (if_over p.number (exceeded new_names variables q)) ≡ None = sym (parts_alike variables n p (if_over p.number (exceeded new_names variables q))) ∙ e in
-      none_within _ _ _ _ _ _ (over_none p.number (exceeded new_names variables q) (exceeded names variables p) (none_fewer variables n p h)) here
+      let here : with_limit one names variables p (if_over p.number (exceeded (moved_names to names) variables q)) ≡ None = sym (parts_alike variables n p (if_over p.number (exceeded (moved_names to names) variables q))) ∙ e in
+      limit_none one names variables p (if_over p.number (exceeded (moved_names to names) variables q)) (if_over p.number (exceeded names variables p)) (over_none p.number (exceeded (moved_names to names) variables q) (exceeded names variables p) (none_fewer variables n p h)) here
 
   -- and the other way round, where the picks aren't too many there
-  pub refused_after : (variables : List (List ℕ)) (n : ℕ) (p : Placed) → over_picks (moved_placed to n p) ≡ false → refused one names variables p ≡ None → refused two new_names variables (moved_placed to n p) ≡ None
+  pub refused_after : (variables : List (List ℕ)) (n : ℕ) (p : Placed) → over_picks (moved_placed to n p) ≡ false → refused one names variables p ≡ None → refused two (moved_names to names) variables (moved_placed to n p) ≡ None
   unfolding refused
   refused_after variables n p h e =
       let q = moved_placed to n p in
-      let here : with_limit one names variables p (if_over p.number (exceeded new_names variables q)) ≡ None =
-      none_within _ _ _ _ _ _ (over_none p.number (exceeded names variables p) (exceeded new_names variables q) (none_further variables n p h)) e in
-      parts_alike variables n p (if_over p.number (exceeded new_names variables q)) ∙ here
+      let here : with_limit one names variables p (if_over p.number (exceeded (moved_names to names) variables q)) ≡ None =
+      limit_none one names variables p (if_over p.number (exceeded names variables p)) (if_over p.number (exceeded (moved_names to names) variables q)) (over_none p.number (exceeded names variables p) (exceeded (moved_names to names) variables q) (none_further variables n p h)) e in
+      parts_alike variables n p (if_over p.number (exceeded (moved_names to names) variables q)) ∙ here
 
 -- ---- the lines of an `order` block
 

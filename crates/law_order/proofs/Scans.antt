@@ -1,5 +1,5 @@
 -- What is read of the lines behind one is read past an `order` block as if it weren't there.
-use Rattle.std.proofs.Common.{◌≡◌, ◌⊎◌, inl, inr, ℕ, zero, suc, ◌+◌, ◌-◌, Bool, true, false, cond, List, [], ◌∷◌, ◌++◌, map, length, drop, Option, Some, None, option_map, refl, sym, ap, ◌∙◌, arith}
+use Rattle.std.proofs.Common.{◌≡◌, ℕ, zero, suc, Bool, true, false, cond, List, [], ◌∷◌, ◌++◌, map, length, drop, Option, Some, None, option_map, refl, sym, ap, ◌∙◌, arith}
 use Rattle.wdf_scene.specs.declared.line.NumberedLine.{NumberedLine}
 use Rattle.wdf_scene.specs.declared.line.SceneLine.{SceneLine}
 use Rattle.wdf_scene.specs.declared.line.SceneLine.TheVariants as line
@@ -11,7 +11,7 @@ use Rattle.wdf_blocks.specs.Forms.{assigned_name, is_end, opens}
 use Rattle.wdf_blocks.specs.Variables.{assigned_from, with_assigned}
 use Rattle.law_order.specs.Order.{PicksLine, order_block, picks_line}
 use Rattle.law_order.proofs.Refusals.{is_of_order}
-use Rattle.law_order.proofs.Shift.{IsWider, behind, drop_further, further, shifted}
+use Rattle.law_order.proofs.Shift.{drop_further, further, shifted}
 
 -- ---- an `order` block gives nothing
 

@@ -40,9 +40,9 @@ ordered (suc i) zero = inr (inr (omega arith))
 ordered (suc i) (suc j) = elim (ordered i j) [
   | inl h ↦ inl (omega (arith, h))
   | inr rest ↦ elim rest [
-      | inl e ↦ inr (inl (ap suc e))
-      | inr h ↦ inr (inr (omega (arith, h)))
-    ]
+    | inl e ↦ inr (inl (ap suc e))
+    | inr h ↦ inr (inr (omega (arith, h)))
+  ]
 ]
 
 not_less : (i j : ℕ) → j ≤ i → nat_lt i j ≡ false
@@ -53,18 +53,18 @@ module _ (f : ℕ → ℕ) (up : (i j : ℕ) → i < j → f i < f j) where
   less_same i j = elim (ordered i j) [
     | inl h ↦ lt-ltb (f i) (f j) (up i j h) ∙ sym (lt-ltb i j h)
     | inr rest ↦ elim rest [
-        | inl e ↦ let same = ap f e in not_less (f i) (f j) (omega (arith, same)) ∙ sym (not_less i j (omega (arith, e)))
-        | inr h ↦ let more = up j i h in not_less (f i) (f j) (omega (arith, more)) ∙ sym (not_less i j (omega (arith, h)))
-      ]
+      | inl e ↦ let same = ap f e in not_less (f i) (f j) (omega (arith, same)) ∙ sym (not_less i j (omega (arith, e)))
+      | inr h ↦ let more = up j i h in not_less (f i) (f j) (omega (arith, more)) ∙ sym (not_less i j (omega (arith, h)))
+    ]
   ]
 
   pub equal_same : (i j : ℕ) → (f i == f j) ≡ (i == j)
   equal_same i j = elim (ordered i j) [
     | inl h ↦ let more = up i j h in ne_eqb (f i) (f j) (λ e. absurd (omega (arith, more, e))) ∙ sym (ne_eqb i j (λ e. absurd (omega (arith, h, e))))
     | inr rest ↦ elim rest [
-        | inl e ↦ eq-eqb (f i) (f j) (ap f e) ∙ sym (eq-eqb i j e)
-        | inr h ↦ let more = up j i h in ne_eqb (f i) (f j) (λ e. absurd (omega (arith, more, e))) ∙ sym (ne_eqb i j (λ e. absurd (omega (arith, h, e))))
-      ]
+      | inl e ↦ eq-eqb (f i) (f j) (ap f e) ∙ sym (eq-eqb i j e)
+      | inr h ↦ let more = up j i h in ne_eqb (f i) (f j) (λ e. absurd (omega (arith, more, e))) ∙ sym (ne_eqb i j (λ e. absurd (omega (arith, h, e))))
+    ]
   ]
 
   pub option_same : (a b : Option ℕ) → same_option ◌==◌ (option_map f a) (option_map f b) ≡ same_option ◌==◌ a b

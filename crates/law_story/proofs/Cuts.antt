@@ -14,7 +14,7 @@ use Rattle.wdf_scene.specs.declared.line.SceneLine.TheVariants as line
 use Rattle.wdf_scene.specs.declared.scene.Scene.{Scene}
 use Rattle.wdf_scene.specs.declared.block.Block.{Block}
 use Rattle.wdf_scene.specs.Blocks.{Position, front, innermost, is_outside, may_stand}
-use Rattle.wdf_scene.specs.Written.{IsScene, WrittenLine, is_written, line_at, lines_at, scene_of, AreLines}
+use Rattle.wdf_scene.specs.Written.{IsScene, WrittenLine, is_written, line_at, lines_at, scene_of, written_size, AreLines}
 use Rattle.wdf_refusals.specs.First.{first_refusal}
 use Rattle.wdf_refusals.specs.Numbered.{Every}
 use Rattle.wdf_refusals.proofs.Heads.{Ends, form_of}
@@ -36,19 +36,35 @@ pub record IsCut (version : ℕ) (ws : List WrittenLine) : Type 0 where
   pub unpicks : flat_map line_picks (lines_at 0 ws) ≡ []
   pub rising : AreRising 1 (lines_at 0 ws)
 
+-- a scene has these lines, and an `order` block between some of them
+pub record IsParted (scene : Scene) (ws : List WrittenLine) : Type 0 where
+  pub before : List WrittenLine
+  pub first : ℕ
+  pub picked : List PicksLine
+  pub last : ℕ
+  pub after : List WrittenLine
+  pub whole : scene ≡ scene_of scene.version (before ++ (order_written first picked last ++ after))
+  pub cut_is : ws ≡ before ++ after
+  pub none_before : Every IsOtherLine before
+  pub none_after : Every IsOtherLine after
+
+-- a scene has these lines, and no `order` block
+pub record IsBare (scene : Scene) (ws : List WrittenLine) : Type 0 where
+  pub is : scene ≡ scene_of scene.version ws
+  pub others : Every IsOtherLine ws
+
 -- the lines of a scene without its block
 pub record HasCut (scene : Scene) : Type 0 where
   pub ws : List WrittenLine
   pub cut : IsCut scene.version ws
-  pub before : List WrittenLine
-  pub block : (first : ℕ) × (ps : List PicksLine) × (last : ℕ) × (after : List WrittenLine) × (scene ≡ scene_of scene.version (before ++ (order_written first ps last ++ after))) × (ws ≡ before ++ after) × Every IsOtherLine before × Every IsOtherLine after
-      ⊎ (scene ≡ scene_of scene.version before) × (ws ≡ before) × Every IsOtherLine before
+  pub known : (scene.version ≡ 1) ⊎ (scene.version ≡ 2)
+  pub parts : IsParted scene ws ⊎ IsBare scene ws
   pub plans : record (plan_of scene) { picks = [] } ≡ record (plan_of (scene_of scene.version ws)) { picks = [] }
   pub accepted : first_refusal scene ≡ None → first_refusal (scene_of scene.version ws) ≡ None
 
 other_forms : (base : ℕ) (ws : List WrittenLine) → Every IsOtherLine ws → Every IsOtherForm (map form_of (lines_at base ws))
 other_forms base [] h = tt
-other_forms base (w ∷ ws) h = (order_anywhere base w.written ∙ h.0, other_forms _ ws h.1)
+other_forms base (w ∷ ws) h = (order_anywhere base w.written ∙ h.0, other_forms (base + written_size w.written) ws h.1)
 
 picks_forms : (ps : List PicksLine) → Every (λ f. f ≡ line.Picks) (map form_of (map picks_line ps))
 picks_forms [] = tt
@@ -65,15 +81,15 @@ empty_open q may = no_blocks q.blocks (and_parts (q.headers == 3) (is_none (inne
 -- ---- a scene with no `order` block
 
 module _ (version : ℕ) (ws : List WrittenLine) (lines : AreLines version ws) (fit : list_all is_spelled ws ≡ true) (rising : AreRising 1 (lines_at 0 ws)) (others : Every IsOtherLine ws) where
-  ends : Ends (front version) (map form_of (lines_at 0 ws) ++ [])
-  ends = subst (Ends (front version)) (sym (append-nil (map form_of (lines_at 0 ws)))) lines.whole
+  ends_bare : Ends (front version) (map form_of (lines_at 0 ws) ++ [])
+  ends_bare = subst (Ends (front version)) (sym (append-nil (map form_of (lines_at 0 ws)))) lines.whole
 
   is_cut : IsCut version ws
   is_cut = record {
     written = lines.written;
     fit = fit;
-    none_open = open_without (front version) (map form_of (lines_at 0 ws)) (other_forms 0 ws others) refl ends;
-    unpicks = unpicked (front version) 0 ws [] others tt ends;
+    none_open = open_without (front version) (map form_of (lines_at 0 ws)) (other_forms 0 ws others) refl ends_bare;
+    unpicks = unpicked (front version) 0 ws [] others tt ends_bare;
     rising = rising;
   }
 
@@ -153,8 +169,8 @@ without_order scene is others =
     record {
       ws = is.ws;
       cut = is_cut scene.version is.ws is.lines is.fit rising others;
-      before = is.ws;
-      block = inr (is.is, refl, others);
+      known = is.lines.known;
+      parts = inr (record { is = is.is; others = others });
       plans = ap (λ (s : Scene). record (plan_of s) { picks = [] }) is.is;
       accepted = λ h. subst (λ (s : Scene). first_refusal s ≡ None) is.is h;
     }
@@ -170,8 +186,9 @@ with_block scene is o =
     record {
       ws = o.before ++ o.after;
       cut = cut_is scene.version o.before o.first o.picked o.last o.after lines fit rising o.none_before o.none_after;
-      before = o.before;
-      block = inl (o.first, o.picked, o.last, o.after, whole, refl, o.none_before, o.none_after);
+      known = is.lines.known;
+      parts =
+          inl (record { before = o.before; first = o.first; picked = o.picked; last = o.last; after = o.after; whole = whole; cut_is = refl; none_before = o.none_before; none_after = o.none_after });
       plans = ap (λ (s : Scene). record (plan_of s) { picks = [] }) whole ∙ plan_without (scene_of scene.version (before_of o)) (scene_of scene.version (o.before ++ o.after)) is_scene w;
       accepted = λ h. bare_accepted (scene_of scene.version (before_of o)) (scene_of scene.version (o.before ++ o.after)) is_scene w (subst (λ (s : Scene). first_refusal s ≡ None) whole h);
     }
