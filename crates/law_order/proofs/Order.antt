@@ -37,7 +37,7 @@ few_placed : (s : Scene) → length (flat_map line_picks s.lines) ≤ 200000 →
 unfolding placed
 few_placed s h = few_from 0 outside nothing s.lines (omega (arith, h))
 
-plan_picks : (s : Scene) → (plan_of s).picks ≡ flat_map line_picks s.lines
+pub plan_picks : (s : Scene) → (plan_of s).picks ≡ flat_map line_picks s.lines
 unfolding plan_of plan_with
 plan_picks s = refl
 

@@ -118,6 +118,10 @@ module _ (version : ℕ) (known : (version ≡ 1) ⊎ (version ≡ 2)) (ws : Lis
       actions_alike old plain plain_same (to_rising 1 (lines_at 0 ws) cut.rising)
       (to_rising 1 (lines_at 0 (renumbered version ws)) (rise_from version 1 (lines_at 0 (renumbered version ws)) at_least_one (renumbered_rise version 0 ws)))
 
+  -- with a block of these picks too
+  abbrev pub again : List ℕ → Scene
+  again picks = scene_of version (story_lines version ws picks)
+
   module _ (picks : List ℕ) (short : are_short picks ≡ true) where
     abbrev all_lines : List WrittenLine
     all_lines = ws ++ end_block picks
@@ -142,20 +146,17 @@ module _ (version : ℕ) (known : (version ≡ 1) ⊎ (version ≡ 2)) (ws : Lis
       whole = subst (Ends (front version)) (sym forms_are) (ends_by picks);
     }
 
-    abbrev pub again : Scene
-    again = scene_of version (story_lines version ws picks)
-
     -- it stands for their text
-    pub again_stands : StandsFor (canonical_text version (story_lines version ws picks)) again
+    pub again_stands : StandsFor (canonical_text version (story_lines version ws picks)) (again picks)
     again_stands = record { first = 1; ws = story_lines version ws picks; tokens = text_stands version known all_lines written fit; is = refl; lines = are_lines }
 
-    again_scene : IsScene again
+    again_scene : IsScene (again picks)
     again_scene = record { ws = story_lines version ws picks; is = refl; lines = are_lines }
 
     -- its plan has these picks
-    pub again_picks : (plan_of again).picks ≡ picks
+    pub again_picks : (plan_of (again picks)).picks ≡ picks
     again_picks =
-        plan_picks again ∙ picks_renumbered version 0 all_lines
+        plan_picks (again picks) ∙ picks_renumbered version 0 all_lines
         ∙ ap (flat_map line_picks) (lines_both 0 ws (end_block picks))
         ∙ flat_map-append line_picks (lines_at 0 ws) (lines_at (0 + size_of ws) (end_block picks))
         ∙ ap (λ ns. ns ++ flat_map line_picks (lines_at (0 + size_of ws) (end_block picks))) cut.unpicks

@@ -60,7 +60,7 @@ story_scenario scene is none' picks short few =
     let h = has_cut scene is in
     let fit = short_from picks short in
     let same = like scene.version h.known h.ws h.cut picks fit few in
-    let there = again scene.version h.known h.ws h.cut picks fit in
+    let there = again scene.version h.known h.ws h.cut picks in
     let plans : bare_plan (plan_of scene) ≡ bare_plan (plan_of there) = ap bare_plan h.plans ∙ same.plans in
     let actions : SameActions (plan_of scene) (plan_of there) = actions_both (plan_of scene) (plan_of (old_scene scene h)) (plan_of there) (same_actions (plan_of scene) (plan_of (old_scene scene h)) h.plans) same.actions in
     record {
