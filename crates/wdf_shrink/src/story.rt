@@ -21,17 +21,25 @@ fn without_zeros(alloc: Global, picks: &[u64]) -> Result<Vec<u64>, Memory> {
     Ok(front)
 }
 
+/// The same picks. Each of them fits 64 bits.
+fn copied(alloc: Global, picks: &[u64]) -> Result<Vec<u64>, Memory>
+    ensures same { IfOk result (λ copy. copy.items ≡ picks.now) }
+    ensures short { IfOk result (λ copy. All (λ pick. pick < 2 ^ 64) copy.items) }
+{
+    let mut copy = Vec::new(alloc);
+    for pick in picks {
+        copy.push(*pick)?;
+    }
+    Ok(copy)
+}
+
 /// The first of some picks, one for each event of a run. No later pick picks anything.
 fn first_picks(alloc: Global, picks: &[u64], events: u64) -> Result<Vec<u64>, Memory>
     ensures first { IfOk result (λ first. first.items ≡ take events picks.now) }
     ensures short { IfOk result (λ first. All (λ pick. pick < 2 ^ 64) first.items) }
 {
     let count = picks.len().min(events as usize);
-    let mut first = Vec::new(alloc);
-    for pick in &picks[..count] {
-        first.push(*pick)?;
-    }
-    Ok(first)
+    copied(alloc, &picks[..count])
 }
 
 /// Makes picks plainer whose run ends as the goal says.
