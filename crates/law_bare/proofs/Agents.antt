@@ -25,7 +25,7 @@ use Rattle.wdf_dev.specs.declared.any.AnyAgent.{AnyAgent}
 use Rattle.wdf_dev.specs.declared.any.AnyAgent.TheVariants as agent
 use Rattle.law_bare.specs.Agents.{SameActions, bare_action, bare_agent_of, bare_app, bare_device}
 use Rattle.law_bare.specs.Bare.{HasLikePicked, HasLikeRun, SeesNoLines, bare_event}
-use Rattle.law_bare.specs.Lines.{bare_agent, bare_post, bare_when, without_lines}
+use Rattle.law_bare.specs.Lines.{bare_agent, bare_post, bare_when, bare_plan}
 use Rattle.law_bare.proofs.Lists.{at_mapped, find_map, gathered_same}
 use Rattle.law_bare.proofs.Plans.{device_of_same, is_app_same, target_of_same}
 use Rattle.law_bare.proofs.Runs.{like_picked, like_run}
@@ -196,30 +196,30 @@ agent_from plan acts k =
     if k == 0 then agent.PnpManager (app.app_at plan 0) else if is_app plan k then agent.App (app.app_at plan k) else last_from plan acts k (device_of_agent plan k) (target_of_agent plan k)
 
 module _ (plan : Plan) (k : ℕ) where
-  posts_bare : (j : ℕ) → map bare_post (posts_of plan j) ≡ posts_of (without_lines plan) j
+  posts_bare : (j : ℕ) → map bare_post (posts_of plan j) ≡ posts_of (bare_plan plan) j
   posts_bare zero = refl
   posts_bare (suc j) = posts_by_agent (slice_get plan.agents j) ∙ ap agent_posts (sym (at_mapped bare_agent plan.agents j))
 
-  app_bare : (j : ℕ) → bare_app (app.app_at plan j) ≡ app.app_at (without_lines plan) j
+  app_bare : (j : ℕ) → bare_app (app.app_at plan j) ≡ app.app_at (bare_plan plan) j
   app_bare j = rw (posts_bare j) refl
 
   abbrev acts : ℕ → List DeviceAction
   acts d = map bare_action (device_actions plan d k)
 
-  last_bare : (d t : Option ℕ) → bare_agent_of (dev.device_or_target plan k d t) ≡ last_from (without_lines plan) acts k d t
+  last_bare : (d t : Option ℕ) → bare_agent_of (dev.device_or_target plan k d t) ≡ last_from (bare_plan plan) acts k d t
   last_bare (Some d) t = refl
   last_bare None (Some t) = refl
   last_bare None None = ap agent.App (app_bare k)
 
-  begin_by : (first second : Bool) → (k == 0) ≡ first → is_app plan k ≡ second → bare_agent_of (dev.agent_at plan k) ≡ agent_from (without_lines plan) acts k
+  begin_by : (first second : Bool) → (k == 0) ≡ first → is_app plan k ≡ second → bare_agent_of (dev.agent_at plan k) ≡ agent_from (bare_plan plan) acts k
   begin_by true second e f = rw e (ap agent.PnpManager (app_bare 0))
   begin_by false true e f = rw (e, is_app_same plan k, f) (ap agent.App (app_bare k))
   begin_by false false e f = rw (e, is_app_same plan k, f, device_of_same plan k, target_of_same plan k) (last_bare (device_of_agent plan k) (target_of_agent plan k))
 
-  begin_bare : bare_agent_of (dev.agent_at plan k) ≡ agent_from (without_lines plan) acts k
+  begin_bare : bare_agent_of (dev.agent_at plan k) ≡ agent_from (bare_plan plan) acts k
   begin_bare = begin_by (k == 0) (is_app plan k) refl refl
 
-module _ (one two : Plan) (plans : without_lines one ≡ without_lines two) (actions : SameActions one two) (k : ℕ) where
+module _ (one two : Plan) (plans : bare_plan one ≡ bare_plan two) (actions : SameActions one two) (k : ℕ) where
   last_acts : (P : Plan) (d t : Option ℕ) → last_from P (acts one k) k d t ≡ last_from P (acts two k) k d t
   last_acts P (Some d) t = ap (λ ls. agent.Device (record (device_at P d k) { actions = ls })) (actions d k)
   last_acts P None (Some t) = refl
@@ -229,10 +229,10 @@ module _ (one two : Plan) (plans : without_lines one ≡ without_lines two) (act
   acts_same P = ap (λ a. if k == 0 then agent.PnpManager (app.app_at P 0) else if is_app P k then agent.App (app.app_at P k) else a) (last_acts P (device_of_agent P k) (target_of_agent P k))
 
   pub begins_alike : bare_agent_of (dev.agent_at one k) ≡ bare_agent_of (dev.agent_at two k)
-  begins_alike = begin_bare one k ∙ acts_same (without_lines one) ∙ ap (λ P. agent_from P (acts two k) k) plans ∙ sym (begin_bare two k)
+  begins_alike = begin_bare one k ∙ acts_same (bare_plan one) ∙ ap (λ P. agent_from P (acts two k) k) plans ∙ sym (begin_bare two k)
 
-pub usual_picked : (one two : Plan) → without_lines one ≡ without_lines two → SameActions one two → (picks : List ℕ) (run : List Event) → IsPickedRun one agent_meaning picks run → HasLikePicked one two agent_meaning picks run
+pub usual_picked : (one two : Plan) → bare_plan one ≡ bare_plan two → SameActions one two → (picks : List ℕ) (run : List Event) → IsPickedRun one agent_meaning picks run → HasLikePicked one two agent_meaning picks run
 usual_picked one two plans actions picks run p = like_picked agent_meaning bare_agent_of unseen_by_all one two plans (begins_alike one two plans actions) picks run p
 
-pub usual_run : (one two : Plan) → without_lines one ≡ without_lines two → SameActions one two → (run : List Event) → IsRunOf one agent_meaning run → HasLikeRun one two agent_meaning run
+pub usual_run : (one two : Plan) → bare_plan one ≡ bare_plan two → SameActions one two → (run : List Event) → IsRunOf one agent_meaning run → HasLikeRun one two agent_meaning run
 usual_run one two plans actions run p = like_run agent_meaning bare_agent_of unseen_by_all one two plans (begins_alike one two plans actions) run p

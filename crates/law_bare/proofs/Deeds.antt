@@ -40,7 +40,7 @@ use Rattle.wdf_model.specs.rules.Script.{intent_of}
 use Rattle.wdf_model.specs.rules.Starts.{new_frame}
 use Rattle.wdf_model.specs.rules.Steps.{answered, deeds, did_deeds, goes_on, spending, stepped, waiting_deeds, woke_deeds}
 use Rattle.law_bare.specs.Bare.{bare_event}
-use Rattle.law_bare.specs.Lines.{without_lines}
+use Rattle.law_bare.specs.Lines.{bare_plan}
 use Rattle.law_bare.proofs.Plans.{answered_same, declares_same, goes_on_same, has_handler_same, intent_same, script_on_same}
 
 -- a state with other agents
@@ -50,21 +50,21 @@ with_agents agents S = record S { agents = agents }
 module _ {A : Type 0} (plan : Plan) (agents : List A) where
   -- ---- deeds
 
-  returns_same : (S : State A) (q : ℕ) → returns_to (without_lines plan) (with_agents agents S) q ≡ returns_to plan S q
+  returns_same : (S : State A) (q : ℕ) → returns_to (bare_plan plan) (with_agents agents S) q ≡ returns_to plan S q
   returns_same S q = rw (declares_same plan callback.EvtIoCanceledOnQueue q) refl
 
-  place_same : (S : State A) (q r : ℕ) → withdrawn_place (without_lines plan) (with_agents agents S) q r ≡ withdrawn_place plan S q r
+  place_same : (S : State A) (q r : ℕ) → withdrawn_place (bare_plan plan) (with_agents agents S) q r ≡ withdrawn_place plan S q r
   place_same S q r = rw (returns_same S q) refl
 
-  cancel_same : (S : State A) (q r : ℕ) → cancel_in (without_lines plan) (with_agents agents S) q r ≡ with_agents agents (cancel_in plan S q r)
+  cancel_same : (S : State A) (q r : ℕ) → cancel_in (bare_plan plan) (with_agents agents S) q r ≡ with_agents agents (cancel_in plan S q r)
   cancel_same S q r = rw (place_same S q r) refl
 
-  withdraw_same : (q : ℕ) (S : State A) (r : ℕ) → withdraw (without_lines plan) q (with_agents agents S) r ≡ with_agents agents (withdraw plan q S r)
+  withdraw_same : (q : ℕ) (S : State A) (r : ℕ) → withdraw (bare_plan plan) q (with_agents agents S) r ≡ with_agents agents (withdraw plan q S r)
   withdraw_same q S r = rw (declares_same plan callback.EvtIoCanceledOnQueue q) refl
 
-  withdraws_all : (q : ℕ) (rs : List ℕ) (S : State A) → fold (withdraw (without_lines plan) q) (with_agents agents S) rs ≡ with_agents agents (fold (withdraw plan q) S rs)
+  withdraws_all : (q : ℕ) (rs : List ℕ) (S : State A) → fold (withdraw (bare_plan plan) q) (with_agents agents S) rs ≡ with_agents agents (fold (withdraw plan q) S rs)
   withdraws_all q [] S = refl
-  withdraws_all q (r ∷ rs) S = ap (λ (T : State A). fold (withdraw (without_lines plan) q) T rs) (withdraw_same q S r) ∙ withdraws_all q rs (withdraw plan q S r)
+  withdraws_all q (r ∷ rs) S = ap (λ (T : State A). fold (withdraw (bare_plan plan) q) T rs) (withdraw_same q S r) ∙ withdraws_all q rs (withdraw plan q S r)
 
   asks_by : (S : State A) (x : ℕ) (b : Bool) → is_live (life_of S.tree x) ≡ b → ask_object (with_agents agents S) x ≡ with_agents agents (ask_object S x)
   asks_by S x true e = rw e refl
@@ -97,12 +97,12 @@ module _ {A : Type 0} (plan : Plan) (agents : List A) where
   arrives S device info (place.Queued q) = refl
   arrives S device info _ = refl
 
-  deed_same : (d : Deed) (S : State A) → do_deed (without_lines plan) d (with_agents agents S) ≡ with_agents agents (do_deed plan d S)
+  deed_same : (d : Deed) (S : State A) → do_deed (bare_plan plan) d (with_agents agents S) ≡ with_agents agents (do_deed plan d S)
   deed_same (Arrive device info p) S = arrives S device.0 info p
   deed_same (AskDeletion o) S = asks_all (subtree S.tree o.0) S
   deed_same (Requeue r q) S = ap (λ (T : State A). enter_at_head (with_place T r.0 (queued q.0)) q.0 r.0) (gives_up S r.0)
   deed_same (Forward r q) S = ap (λ (T : State A). enter_at_tail (with_place T r.0 (queued q.0)) q.0 r.0) (gives_up S r.0)
-  deed_same (GiveBack r q) S = ap (λ (T : State A). cancel_in (without_lines plan) T q.0 r.0) (gives_up S r.0) ∙ cancel_same (give_up S r.0) q.0 r.0
+  deed_same (GiveBack r q) S = ap (λ (T : State A). cancel_in (bare_plan plan) T q.0 r.0) (gives_up S r.0) ∙ cancel_same (give_up S r.0) q.0 r.0
   deed_same (Withdraw q r) S = withdraw_same q.0 S r.0
   deed_same (SendRequest r t forget) S = ap (λ (T : State A). with_place (record T { targets = targets.send S.targets t.0 r.0 forget }) r.0 (place.Sent (record { 0 = t.0 }))) (gives_up_if forget S r.0)
   deed_same (CompleteRequest r) S =
@@ -113,44 +113,44 @@ module _ {A : Type 0} (plan : Plan) (agents : List A) where
   deed_same (CloseDevice d) S = closes_queues (queues_of plan d.0) (record S { control = control.shut S.control d.0 })
   deed_same _ S = refl
 
-  pub deeds_same : (ds : List Deed) (S : State A) → do_deeds (without_lines plan) ds (with_agents agents S) ≡ with_agents agents (do_deeds plan ds S)
+  pub deeds_same : (ds : List Deed) (S : State A) → do_deeds (bare_plan plan) ds (with_agents agents S) ≡ with_agents agents (do_deeds plan ds S)
   deeds_same [] S = refl
-  deeds_same (d ∷ ds) S = ap (λ (T : State A). do_deeds (without_lines plan) ds T) (deed_same d S) ∙ deeds_same ds (do_deed plan d S)
+  deeds_same (d ∷ ds) S = ap (λ (T : State A). do_deeds (bare_plan plan) ds T) (deed_same d S) ∙ deeds_same ds (do_deed plan d S)
 
   -- ---- calls
 
-  nowhere_same : (S : State A) (r q : ℕ) → forwards_nowhere (without_lines plan) (with_agents agents S) r q ≡ forwards_nowhere plan S r q
+  nowhere_same : (S : State A) (r q : ℕ) → forwards_nowhere (bare_plan plan) (with_agents agents S) r q ≡ forwards_nowhere plan S r q
   nowhere_same S r q = rw (has_handler_same plan q (info_of S.requests r).form) refl
 
   outcome_by : (S : State A) (cpu f : ℕ) (k : CallKind) (n : ℕ) (a b c : Arg)
-      → outcome (without_lines plan) (with_agents agents S) cpu f (record { kind = k; count = n; a = a; b = b; c = c }) ≡ outcome plan S cpu f (record { kind = k; count = n; a = a; b = b; c = c })
+      → outcome (bare_plan plan) (with_agents agents S) cpu f (record { kind = k; count = n; a = a; b = b; c = c }) ≡ outcome plan S cpu f (record { kind = k; count = n; a = a; b = b; c = c })
   outcome_by S cpu f call.WdfRequestMarkCancelableEx n a b c = rw (declares_same plan callback.EvtRequestCancel _) refl
   outcome_by S cpu f call.WdfRequestForwardToIoQueue n a b c = rw (nowhere_same S _ _) refl
   outcome_by S cpu f call.WdfIoQueueReadyNotify n a b c = rw (declares_same plan callback.EvtIoQueueState _) refl
   outcome_by S cpu f call.WdfInterruptQueueDpcForIsr n a b c = rw (declares_same plan callback.EvtInterruptDpc _) refl
   outcome_by S cpu f _ n a b c = refl
 
-  pub outcome_same : (S : State A) (cpu f : ℕ) (c : Call) → outcome (without_lines plan) (with_agents agents S) cpu f c ≡ outcome plan S cpu f c
+  pub outcome_same : (S : State A) (cpu f : ℕ) (c : Call) → outcome (bare_plan plan) (with_agents agents S) cpu f c ≡ outcome plan S cpu f c
   outcome_same S cpu f c = outcome_by S cpu f c.kind c.count c.a c.b c.c
 
   met_by : (S : State A) (k : CallKind) (n : ℕ) (a b c : Arg)
-      → is_met_then (without_lines plan) (with_agents agents S) (record { kind = k; count = n; a = a; b = b; c = c }) ≡ is_met_then plan S (record { kind = k; count = n; a = a; b = b; c = c })
+      → is_met_then (bare_plan plan) (with_agents agents S) (record { kind = k; count = n; a = a; b = b; c = c }) ≡ is_met_then plan S (record { kind = k; count = n; a = a; b = b; c = c })
   met_by S call.WdfIoQueuePurgeSynchronously n a b c = rw (returns_same S _) refl
   met_by S _ n a b c = refl
 
-  pub met_same : (S : State A) (c : Call) → is_met_then (without_lines plan) (with_agents agents S) c ≡ is_met_then plan S c
+  pub met_same : (S : State A) (c : Call) → is_met_then (bare_plan plan) (with_agents agents S) c ≡ is_met_then plan S c
   met_same S c = met_by S c.kind c.count c.a c.b c.c
 
   -- ---- the deeds of an event
 
-  frame_same : (S : State A) (c : Callback) (o : Handle) (r : Option Handle) → new_frame (without_lines plan) (with_agents agents S) c o r ≡ new_frame plan S c o r
+  frame_same : (S : State A) (c : Callback) (o : Handle) (r : Option Handle) → new_frame (bare_plan plan) (with_agents agents S) c o r ≡ new_frame plan S c o r
   frame_same S c o r = rw (script_on_same plan c (declared_in plan S o.id.0)) refl
 
-  arrival_by : (S : State A) (f : RequestForm) (length : ℕ) (q : Option ℕ) → place_if_any (without_lines plan) (with_agents agents S) f length q ≡ place_if_any plan S f length q
+  arrival_by : (S : State A) (f : RequestForm) (length : ℕ) (q : Option ℕ) → place_if_any (bare_plan plan) (with_agents agents S) f length q ≡ place_if_any plan S f length q
   arrival_by S f length None = refl
   arrival_by S f length (Some q) = rw (has_handler_same plan q f) refl
 
-  arrival_same : (S : State A) (agent : ℕ) (f : RequestForm) (length code device : ℕ) → arrival_deeds (without_lines plan) (with_agents agents S) agent f length code device ≡ arrival_deeds plan S agent f length code device
+  arrival_same : (S : State A) (agent : ℕ) (f : RequestForm) (length code device : ℕ) → arrival_deeds (bare_plan plan) (with_agents agents S) agent f length code device ≡ arrival_deeds plan S agent f length code device
   arrival_same S agent f length code device = rw (arrival_by S f length (queue_for plan device f)) refl
 
   by_top_same : (S : State A) (x y : ℕ → Frame → List Deed) → ((f : ℕ) (frame : Frame) → x f frame ≡ y f frame) → (o : Option ℕ)
@@ -158,32 +158,32 @@ module _ {A : Type 0} (plan : Plan) (agents : List A) where
   by_top_same S x y same None = refl
   by_top_same S x y same (Some f) = same f (frame_of S.cpus f)
 
-  posts_same : (S : State A) (agent : ℕ) (p : Post) → post_deeds (without_lines plan) (with_agents agents S) agent p ≡ post_deeds plan S agent p
+  posts_same : (S : State A) (agent : ℕ) (p : Post) → post_deeds (bare_plan plan) (with_agents agents S) agent p ≡ post_deeds plan S agent p
   posts_same S agent (post.Read device n) = arrival_same S agent form.Read n 0 device.id.0
   posts_same S agent (post.Write device n) = arrival_same S agent form.Write n 0 device.id.0
   posts_same S agent (post.Control device code n) = arrival_same S agent form.Control n code device.id.0
   posts_same S agent _ = refl
 
-  pub event_deeds_same : (S : State A) (e : Event) → deeds (without_lines plan) (with_agents agents S) (bare_event e) ≡ deeds plan S e
+  pub event_deeds_same : (S : State A) (e : Event) → deeds (bare_plan plan) (with_agents agents S) (bare_event e) ≡ deeds plan S e
   event_deeds_same S (event.Start cpu c o r) = rw (frame_same S c o r) refl
   event_deeds_same S (event.Local cpu line) =
-      by_top_same S (λ f frame. GoOn (frame_id f) (stepped frame (intent_of (without_lines plan) frame)) ∷ []) (λ f frame. GoOn (frame_id f) (stepped frame (intent_of plan frame)) ∷ [])
+      by_top_same S (λ f frame. GoOn (frame_id f) (stepped frame (intent_of (bare_plan plan) frame)) ∷ []) (λ f frame. GoOn (frame_id f) (stepped frame (intent_of plan frame)) ∷ [])
       (λ f frame. ap (λ i. GoOn (frame_id f) (stepped frame i) ∷ []) (intent_same plan frame)) (top S.cpus cpu.0)
   event_deeds_same S (event.Log cpu v) =
-      by_top_same S (λ f frame. GoOn (frame_id f) (goes_on (without_lines plan) frame) ∷ []) (λ f frame. GoOn (frame_id f) (goes_on plan frame) ∷ [])
+      by_top_same S (λ f frame. GoOn (frame_id f) (goes_on (bare_plan plan) frame) ∷ []) (λ f frame. GoOn (frame_id f) (goes_on plan frame) ∷ [])
       (λ f frame. ap (λ x. GoOn (frame_id f) x ∷ []) (goes_on_same plan frame)) (top S.cpus cpu.0)
   event_deeds_same S (event.Spend cpu n) =
-      by_top_same S (λ f frame. GoOn (frame_id f) (spending (without_lines plan) S frame n) ∷ []) (λ f frame. GoOn (frame_id f) (spending plan S frame n) ∷ [])
+      by_top_same S (λ f frame. GoOn (frame_id f) (spending (bare_plan plan) S frame n) ∷ []) (λ f frame. GoOn (frame_id f) (spending plan S frame n) ∷ [])
       (λ f frame. rw (goes_on_same plan frame) refl) (top S.cpus cpu.0)
   event_deeds_same S (event.Register cpu a k v) =
-      by_top_same S (λ f frame. GoOn (frame_id f) (answered (without_lines plan) frame (Num v)) ∷ []) (λ f frame. GoOn (frame_id f) (answered plan frame (Num v)) ∷ [])
+      by_top_same S (λ f frame. GoOn (frame_id f) (answered (bare_plan plan) frame (Num v)) ∷ []) (λ f frame. GoOn (frame_id f) (answered plan frame (Num v)) ∷ [])
       (λ f frame. ap (λ x. GoOn (frame_id f) x ∷ []) (answered_same plan frame (Num v))) (top S.cpus cpu.0)
   event_deeds_same S (event.Did cpu c v) =
-      by_top_same S (did_deeds (without_lines plan) (with_agents agents S) cpu.0 c v) (did_deeds plan S cpu.0 c v)
+      by_top_same S (did_deeds (bare_plan plan) (with_agents agents S) cpu.0 c v) (did_deeds plan S cpu.0 c v)
       (λ f frame. rw (outcome_same S cpu.0 f c, answered_same plan frame v) refl) (top S.cpus cpu.0)
   event_deeds_same S (event.Waiting cpu c) =
-      by_top_same S (waiting_deeds (without_lines plan) (with_agents agents S) cpu.0 c) (waiting_deeds plan S cpu.0 c) (λ f frame. rw (outcome_same S cpu.0 f c) refl) (top S.cpus cpu.0)
+      by_top_same S (waiting_deeds (bare_plan plan) (with_agents agents S) cpu.0 c) (waiting_deeds plan S cpu.0 c) (λ f frame. rw (outcome_same S cpu.0 f c) refl) (top S.cpus cpu.0)
   event_deeds_same S (event.Woke cpu c v) =
-      by_top_same S (woke_deeds (without_lines plan) c v) (woke_deeds plan c v) (λ f frame. rw (answered_same plan frame v) refl) (top S.cpus cpu.0)
+      by_top_same S (woke_deeds (bare_plan plan) c v) (woke_deeds plan c v) (λ f frame. rw (answered_same plan frame v) refl) (top S.cpus cpu.0)
   event_deeds_same S (event.Posted agent p answer) = posts_same S agent p
   event_deeds_same S _ = refl

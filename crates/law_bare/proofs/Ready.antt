@@ -51,7 +51,7 @@ use Rattle.wdf_model.specs.rules.Starts.{device_of_interrupt, is_ready_for, line
 use Rattle.wdf_model.specs.rules.Steps.{event_of_frame, event_of_top, fault_event, intent_event, is_cpu, is_proper_if_any, may, next_event, own_event, spends, view_of, woken_event}
 use Rattle.law_machine_own.proofs.MayCome.{own_may as own_comes}
 use Rattle.law_bare.specs.Bare.{SeesNoLines, bare_event}
-use Rattle.law_bare.specs.Lines.{without_lines}
+use Rattle.law_bare.specs.Lines.{bare_plan}
 use Rattle.law_bare.proofs.Deeds.{met_same, outcome_same, with_agents}
 use Rattle.law_bare.proofs.Lists.{at_mapped}
 use Rattle.law_bare.proofs.Plans.{declares_same, device_agent_same, device_of_same, handler_same, intent_same, line_none, script_on_same, somewhere_same, target_of_same}
@@ -144,7 +144,7 @@ module _ {A : Type 0} (plan : Plan) (m : Meaning A) (bare : A → A) (unseen : S
   value_by None what = refl
   value_by (Some a) what = unseen.value a what
 
-  shown_same : (S : State A) (device what : ℕ) → shown (without_lines plan) m (stripped S) device what ≡ shown plan m S device what
+  shown_same : (S : State A) (device what : ℕ) → shown (bare_plan plan) m (stripped S) device what ≡ shown plan m S device what
   shown_same S device what =
       ap (λ k. value_of_agent m (slice_get (map bare S.agents) k) what) (device_agent_same plan device)
       ∙ ap (λ o. value_of_agent m o what) (at_mapped bare S.agents _) ∙ value_by (slice_get S.agents _) what
@@ -153,11 +153,11 @@ module _ {A : Type 0} (plan : Plan) (m : Meaning A) (bare : A → A) (unseen : S
     -- ---- a frame's own event
 
     call_by : (cpu : ℕ) (c : Call) (f : ℕ) (b : Bool) → is_met_then plan S c ≡ b
-        → intent_event (without_lines plan) m (stripped S) cpu f (frame_of S.cpus f) (intent.Do c) ≡ bare_event (intent_event plan m S cpu f (frame_of S.cpus f) (intent.Do c))
+        → intent_event (bare_plan plan) m (stripped S) cpu f (frame_of S.cpus f) (intent.Do c) ≡ bare_event (intent_event plan m S cpu f (frame_of S.cpus f) (intent.Do c))
     call_by cpu c f true e = rw (met_same plan (map bare S.agents) S c, e, outcome_same plan (map bare S.agents) S cpu f c) refl
     call_by cpu c f false e = rw (met_same plan (map bare S.agents) S c, e) refl
 
-    intent_by : (cpu f : ℕ) (i : Intent) → intent_event (without_lines plan) m (stripped S) cpu f (frame_of S.cpus f) i ≡ bare_event (intent_event plan m S cpu f (frame_of S.cpus f) i)
+    intent_by : (cpu f : ℕ) (i : Intent) → intent_event (bare_plan plan) m (stripped S) cpu f (frame_of S.cpus f) i ≡ bare_event (intent_event plan m S cpu f (frame_of S.cpus f) i)
     intent_by cpu f (intent.Local change next) = ap (event.Local (cpu_of cpu)) (line_none plan (frame_of S.cpus f))
     intent_by cpu f (intent.Log v) = refl
     intent_by cpu f (intent.Spend n) = refl
@@ -167,56 +167,56 @@ module _ {A : Type 0} (plan : Plan) (m : Meaning A) (bare : A → A) (unseen : S
     intent_by cpu f (intent.Return v) = refl
     intent_by cpu f intent.Broken = ap (event.Fault (cpu_of cpu) fault.ScriptError) (line_none plan (frame_of S.cpus f))
 
-    fault_by : (cpu f : ℕ) (i : Intent) (x : Option Fault) → fault_event (without_lines plan) m (stripped S) cpu f (frame_of S.cpus f) i x ≡ bare_event (fault_event plan m S cpu f (frame_of S.cpus f) i x)
+    fault_by : (cpu f : ℕ) (i : Intent) (x : Option Fault) → fault_event (bare_plan plan) m (stripped S) cpu f (frame_of S.cpus f) i x ≡ bare_event (fault_event plan m S cpu f (frame_of S.cpus f) i x)
     fault_by cpu f i (Some x) = ap (event.Fault (cpu_of cpu) x) (line_none plan (frame_of S.cpus f))
     fault_by cpu f i None = intent_by cpu f i
 
-    next_by : (cpu f : ℕ) (i : Intent) → next_event (without_lines plan) m (stripped S) cpu f (frame_of S.cpus f) i ≡ bare_event (next_event plan m S cpu f (frame_of S.cpus f) i)
+    next_by : (cpu f : ℕ) (i : Intent) → next_event (bare_plan plan) m (stripped S) cpu f (frame_of S.cpus f) i ≡ bare_event (next_event plan m S cpu f (frame_of S.cpus f) i)
     next_by cpu f i = fault_by cpu f i (fault_of (view_of plan S cpu f) i)
 
     woken_by : (cpu : ℕ) (p : Pending) (b : Bool) → is_met S p.call ≡ b → woken_event (stripped S) cpu p ≡ option_map bare_event (woken_event S cpu p)
     woken_by cpu p true e = rw e refl
     woken_by cpu p false e = rw e refl
 
-    frame_by : (cpu f : ℕ) (p : Option Pending) → event_of_frame (without_lines plan) m (stripped S) cpu f (frame_of S.cpus f) p ≡ option_map bare_event (event_of_frame plan m S cpu f (frame_of S.cpus f) p)
+    frame_by : (cpu f : ℕ) (p : Option Pending) → event_of_frame (bare_plan plan) m (stripped S) cpu f (frame_of S.cpus f) p ≡ option_map bare_event (event_of_frame plan m S cpu f (frame_of S.cpus f) p)
     frame_by cpu f (Some p) = woken_by cpu p (is_met S p.call) refl
     frame_by cpu f None =
-        ap (λ i. Some (next_event (without_lines plan) m (stripped S) cpu f (frame_of S.cpus f) i)) (intent_same plan (frame_of S.cpus f)) ∙ ap Some (next_by cpu f (intent_of plan (frame_of S.cpus f)))
+        ap (λ i. Some (next_event (bare_plan plan) m (stripped S) cpu f (frame_of S.cpus f) i)) (intent_same plan (frame_of S.cpus f)) ∙ ap Some (next_by cpu f (intent_of plan (frame_of S.cpus f)))
 
-    spends_by : (cpu f : ℕ) (b : Bool) → spends S (frame_of S.cpus f) ≡ b → event_of_top (without_lines plan) m (stripped S) cpu (Some f) ≡ option_map bare_event (event_of_top plan m S cpu (Some f))
+    spends_by : (cpu f : ℕ) (b : Bool) → spends S (frame_of S.cpus f) ≡ b → event_of_top (bare_plan plan) m (stripped S) cpu (Some f) ≡ option_map bare_event (event_of_top plan m S cpu (Some f))
     spends_by cpu f true e = rw e refl
     spends_by cpu f false e = rw e (frame_by cpu f (frame_of S.cpus f).pending)
 
-    top_by : (cpu : ℕ) (o : Option ℕ) → event_of_top (without_lines plan) m (stripped S) cpu o ≡ option_map bare_event (event_of_top plan m S cpu o)
+    top_by : (cpu : ℕ) (o : Option ℕ) → event_of_top (bare_plan plan) m (stripped S) cpu o ≡ option_map bare_event (event_of_top plan m S cpu o)
     top_by cpu None = refl
     top_by cpu (Some f) = spends_by cpu f (spends S (frame_of S.cpus f)) refl
 
-    own_same : (cpu : ℕ) → own_event (without_lines plan) m (stripped S) cpu ≡ option_map bare_event (own_event plan m S cpu)
+    own_same : (cpu : ℕ) → own_event (bare_plan plan) m (stripped S) cpu ≡ option_map bare_event (own_event plan m S cpu)
     own_same cpu = top_by cpu (top S.cpus cpu)
 
     -- ---- what may come
 
-    rank_same : (k : Rank) (cpu : ℕ) (c : Callback) (o : ℕ) → rank_ready (without_lines plan) m (stripped S) k cpu c o ≡ rank_ready plan m S k cpu c o
+    rank_same : (k : Rank) (cpu : ℕ) (c : Callback) (o : ℕ) → rank_ready (bare_plan plan) m (stripped S) k cpu c o ≡ rank_ready plan m S k cpu c o
     rank_same rank.Isr cpu c o = rw (shown_same S (device_of_interrupt plan o) (line_number o)) refl
     rank_same _ cpu c o = refl
 
-    rank_for_same : (k : Rank) (c : Callback) (o r : ℕ) → rank_ready_for (without_lines plan) (stripped S) k c o r ≡ rank_ready_for plan S k c o r
+    rank_for_same : (k : Rank) (c : Callback) (o r : ℕ) → rank_ready_for (bare_plan plan) (stripped S) k c o r ≡ rank_ready_for plan S k c o r
     rank_for_same rank.Handler c o r = rw (handler_same plan o (info_of S.requests r).form) refl
     rank_for_same _ c o r = refl
 
-    ready_for_same : (cpu : ℕ) (c : Callback) (o : ℕ) (r : Option Handle) → is_ready_for (without_lines plan) m (stripped S) cpu c o r ≡ is_ready_for plan m S cpu c o r
+    ready_for_same : (cpu : ℕ) (c : Callback) (o : ℕ) (r : Option Handle) → is_ready_for (bare_plan plan) m (stripped S) cpu c o r ≡ is_ready_for plan m S cpu c o r
     ready_for_same cpu c o None = rank_same (row_of c).rank cpu c o
     ready_for_same cpu c o (Some r) = rank_for_same (row_of c).rank c o r.id.0
 
-    start_same : (cpu : ℕ) (c : Callback) (o : ℕ) (r : Option Handle) → may_start (without_lines plan) m (stripped S) cpu c o r ≡ may_start plan m S cpu c o r
+    start_same : (cpu : ℕ) (c : Callback) (o : ℕ) (r : Option Handle) → may_start (bare_plan plan) m (stripped S) cpu c o r ≡ may_start plan m S cpu c o r
     start_same cpu c o r = rw (script_on_same plan c (declared_in plan S o), ready_for_same cpu c o r) refl
 
-    fits_same : (k : ℕ) (p : Post) → post_fits (without_lines plan) (stripped S) k p ≡ post_fits plan S k p
+    fits_same : (k : ℕ) (p : Post) → post_fits (bare_plan plan) (stripped S) k p ≡ post_fits plan S k p
     fits_same k (post.Act action) = rw (device_of_same plan k) refl
     fits_same k (post.Done request s) = rw (target_of_same plan k) refl
     fits_same k _ = refl
 
-    may_same : (e : Event) → is_outer e ≡ true → may (without_lines plan) m (stripped S) (bare_event e) ≡ may plan m S e
+    may_same : (e : Event) → is_outer e ≡ true → may (bare_plan plan) m (stripped S) (bare_event e) ≡ may plan m S e
     may_same (event.Start cpu c o r) h = ap (λ b. is_cpu plan cpu && is_proper plan S o && is_proper_if_any plan S r && b) (start_same cpu.0 c o.id.0 r)
     may_same (event.Park cpu f) h = refl
     may_same (event.Unpark cpu f) h = refl
@@ -230,14 +230,14 @@ module _ {A : Type 0} (plan : Plan) (m : Meaning A) (bare : A → A) (unseen : S
 
     -- ---- candidates
 
-    handler_start_same : (cpu q r : ℕ) → handler_start (without_lines plan) (stripped S) cpu q r ≡ handler_start plan S cpu q r
+    handler_start_same : (cpu q r : ℕ) → handler_start (bare_plan plan) (stripped S) cpu q r ≡ handler_start plan S cpu q r
     handler_start_same cpu q r = rw (handler_same plan q (info_of S.requests r).form) refl
 
-    front_by : (cpu q : ℕ) (o : Option ℕ) → option_and_then (handler_start (without_lines plan) (stripped S) cpu q) o ≡ option_and_then (handler_start plan S cpu q) o
+    front_by : (cpu q : ℕ) (o : Option ℕ) → option_and_then (handler_start (bare_plan plan) (stripped S) cpu q) o ≡ option_and_then (handler_start plan S cpu q) o
     front_by cpu q None = refl
     front_by cpu q (Some r) = handler_start_same cpu q r
 
-    start_at_same : (cpu : ℕ) (r : Rank) (k : ℕ) → start_at (without_lines plan) (stripped S) cpu r k ≡ start_at plan S cpu r k
+    start_at_same : (cpu : ℕ) (r : Rank) (k : ℕ) → start_at (bare_plan plan) (stripped S) cpu r k ≡ start_at plan S cpu r k
     start_at_same cpu rank.Handler k = front_by cpu k (front S.queues k)
     start_at_same cpu _ k = refl
 
@@ -245,7 +245,7 @@ module _ {A : Type 0} (plan : Plan) (m : Meaning A) (bare : A → A) (unseen : S
     is_own (group.OwnEvent cpu) = true
     is_own _ = false
 
-    plain_same : (g : Group) (k : ℕ) → is_own g ≡ false → candidate (without_lines plan) m (stripped S) g k ≡ candidate plan m S g k
+    plain_same : (g : Group) (k : ℕ) → is_own g ≡ false → candidate (bare_plan plan) m (stripped S) g k ≡ candidate plan m S g k
     plain_same (group.OwnEvent cpu) k h = absurd (let z : ⊥ = cc in z)
     plain_same (group.Starts cpu r) k h = start_at_same cpu r k
     plain_same group.Posts k h = ap (option_map (posted plan S k)) (due_same S k)
@@ -289,46 +289,46 @@ module _ {A : Type 0} (plan : Plan) (m : Meaning A) (bare : A → A) (unseen : S
     outer_candidate group.Destroys k h = refl
     outer_candidate group.Posts k h = outer_map (posted plan S k) (λ p. refl) (due_of m S k)
 
-    plain_mapped : (g : Group) (k : ℕ) → is_own g ≡ false → candidate (without_lines plan) m (stripped S) g k ≡ option_map bare_event (candidate plan m S g k)
+    plain_mapped : (g : Group) (k : ℕ) → is_own g ≡ false → candidate (bare_plan plan) m (stripped S) g k ≡ option_map bare_event (candidate plan m S g k)
     plain_mapped g k h = plain_same g k h ∙ sym (outer_mapped (candidate plan m S g k) (outer_candidate g k h))
 
-    candidate_same : (g : Group) (k : ℕ) → candidate (without_lines plan) m (stripped S) g k ≡ option_map bare_event (candidate plan m S g k)
+    candidate_same : (g : Group) (k : ℕ) → candidate (bare_plan plan) m (stripped S) g k ≡ option_map bare_event (candidate plan m S g k)
     candidate_same (group.OwnEvent cpu) k = own_same cpu
     candidate_same g k = plain_mapped g k refl
 
-    plain_may : (g : Group) (k : ℕ) (e : Event) → is_own g ≡ false → candidate plan m S g k ≡ Some e → may (without_lines plan) m (stripped S) (bare_event e) ≡ may plan m S e
+    plain_may : (g : Group) (k : ℕ) (e : Event) → is_own g ≡ false → candidate plan m S g k ≡ Some e → may (bare_plan plan) m (stripped S) (bare_event e) ≡ may plan m S e
     plain_may g k e h at = may_same e (outer_some (candidate plan m S g k) e (outer_candidate g k h) at)
 
-    own_may : (cpu : ℕ) (e : Event) → own_event plan m S cpu ≡ Some e → may (without_lines plan) m (stripped S) (bare_event e) ≡ may plan m S e
+    own_may : (cpu : ℕ) (e : Event) → own_event plan m S cpu ≡ Some e → may (bare_plan plan) m (stripped S) (bare_event e) ≡ may plan m S e
     own_may cpu e at =
-        own_comes (without_lines plan) m (stripped S) cpu (bare_event e) (own_same cpu ∙ ap (option_map bare_event) at) ∙ sym (own_comes plan m S cpu e at)
+        own_comes (bare_plan plan) m (stripped S) cpu (bare_event e) (own_same cpu ∙ ap (option_map bare_event) at) ∙ sym (own_comes plan m S cpu e at)
 
-    candidate_may : (g : Group) (k : ℕ) (e : Event) → candidate plan m S g k ≡ Some e → may (without_lines plan) m (stripped S) (bare_event e) ≡ may plan m S e
+    candidate_may : (g : Group) (k : ℕ) (e : Event) → candidate plan m S g k ≡ Some e → may (bare_plan plan) m (stripped S) (bare_event e) ≡ may plan m S e
     candidate_may (group.OwnEvent cpu) k e at = own_may cpu e at
     candidate_may g k e at = plain_may g k e refl at
 
-    rank_places : (r : Rank) → places_of_rank (without_lines plan) (stripped S) r ≡ places_of_rank plan S r
+    rank_places : (r : Rank) → places_of_rank (bare_plan plan) (stripped S) r ≡ places_of_rank plan S r
     rank_places rank.Cleanup = rw (somewhere_same plan callback.EvtCleanupCallback) refl
     rank_places rank.Destroy = rw (somewhere_same plan callback.EvtDestroyCallback) refl
     rank_places _ = refl
 
-    for_places : (r : Rank) (o : ℕ) → places_for (without_lines plan) (stripped S) r o ≡ places_for plan S r o
+    for_places : (r : Rank) (o : ℕ) → places_for (bare_plan plan) (stripped S) r o ≡ places_for plan S r o
     for_places rank.Completion o = refl
     for_places r o = rw (declares_same plan (callback_for r) o) refl
 
-    places_same : (g : Group) → places_in (without_lines plan) (stripped S) g ≡ places_in plan S g
+    places_same : (g : Group) → places_in (bare_plan plan) (stripped S) g ≡ places_in plan S g
     places_same (group.Starts cpu r) = rank_places r
     places_same (group.StartsFor cpu r o) = for_places r o
     places_same group.Posts = length-map S.agents bare
     places_same _ = refl
 
-    group_same : (g : Group) → filter (may (without_lines plan) m (stripped S)) (candidates_in (without_lines plan) m (stripped S) g) ≡ map bare_event (filter (may plan m S) (candidates_in plan m S g))
+    group_same : (g : Group) → filter (may (bare_plan plan) m (stripped S)) (candidates_in (bare_plan plan) m (stripped S) g) ≡ map bare_event (filter (may plan m S) (candidates_in plan m S g))
     group_same g =
-        ap (λ n. filter (may (without_lines plan) m (stripped S)) (filter_map (candidate (without_lines plan) m (stripped S) g) (range_with_len 0 n))) (places_same g)
-        ∙ all_by (may plan m S) (may (without_lines plan) m (stripped S)) (candidate plan m S g) (candidate (without_lines plan) m (stripped S) g) (candidate_same g) (candidate_may g) (range_with_len 0 (places_in plan S g))
+        ap (λ n. filter (may (bare_plan plan) m (stripped S)) (filter_map (candidate (bare_plan plan) m (stripped S) g) (range_with_len 0 n))) (places_same g)
+        ∙ all_by (may plan m S) (may (bare_plan plan) m (stripped S)) (candidate plan m S g) (candidate (bare_plan plan) m (stripped S) g) (candidate_same g) (candidate_may g) (range_with_len 0 (places_in plan S g))
 
-    allowed_same : allowed (without_lines plan) m (stripped S) ≡ map bare_event (allowed plan m S)
-    allowed_same = all_groups (may plan m S) (may (without_lines plan) m (stripped S)) (candidates_in plan m S) (candidates_in (without_lines plan) m (stripped S)) group_same (groups plan)
+    allowed_same : allowed (bare_plan plan) m (stripped S) ≡ map bare_event (allowed plan m S)
+    allowed_same = all_groups (may plan m S) (may (bare_plan plan) m (stripped S)) (candidates_in plan m S) (candidates_in (bare_plan plan) m (stripped S)) group_same (groups plan)
 
     -- ---- time
 
@@ -347,9 +347,9 @@ module _ {A : Type 0} (plan : Plan) (m : Meaning A) (bare : A → A) (unseen : S
     or_tick_same [] = tick_by (waits_for_time m S) refl
     or_tick_same (e ∷ es) = refl
 
-    ready_by : (b : Bool) → nat_lt S.number plan.limit ≡ b → ready_in (without_lines plan) m (stripped S) ≡ map bare_event (ready_in plan m S)
+    ready_by : (b : Bool) → nat_lt S.number plan.limit ≡ b → ready_in (bare_plan plan) m (stripped S) ≡ map bare_event (ready_in plan m S)
     ready_by true e = rw e (ap (or_tick m (stripped S)) allowed_same ∙ or_tick_same (allowed plan m S))
     ready_by false e = rw e refl
 
-    pub ready_same : ready_in (without_lines plan) m (stripped S) ≡ map bare_event (ready_in plan m S)
+    pub ready_same : ready_in (bare_plan plan) m (stripped S) ≡ map bare_event (ready_in plan m S)
     ready_same = ready_by (nat_lt S.number plan.limit) refl

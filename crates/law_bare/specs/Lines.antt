@@ -1,5 +1,5 @@
 -- A plan without the numbers of its lines in the text. (own)
-use Rattle.std.specs.Prelude.{map}
+use Rattle.std.specs.Prelude.{[], map}
 use Rattle.wdf_base.specs.declared.declared.PostLine.{PostLine}
 use Rattle.wdf_base.specs.declared.declared.WhenLine.{WhenLine}
 use Rattle.wdf_base.specs.declared.plan.Plan.{Plan}
@@ -33,3 +33,7 @@ without_lines plan =
       agents = map bare_agent plan.agents;
       scripts = map bare_script plan.scripts;
     }
+
+-- the same without its picks too
+abbrev pub bare_plan : Plan → Plan
+bare_plan plan = record (without_lines plan) { picks = [] }

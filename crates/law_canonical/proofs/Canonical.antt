@@ -12,6 +12,7 @@ use Rattle.wdf_parse.proofs.Uniqueness.{one_stands, stands_read}
 use Rattle.wdf_refusals.specs.First.{first_refusal}
 use Rattle.wdf_plan.specs.Plans.{plan_of}
 use Rattle.wdf_base.specs.declared.plan.Plan.{Plan}
+use Rattle.law_bare.specs.Lines.{bare_plan}
 use Rattle.law_bare.proofs.Agents.{usual_picked, usual_run}
 use Rattle.law_canonical.specs.Canonical.{HasPlanToo, HasRunsToo, IsCanonical, RunAlike}
 use Rattle.law_canonical.proofs.Order.{IsRising, actions_alike, lines_rise}
@@ -52,8 +53,9 @@ canonical_again text scene again is stands =
 pub runs_alike : (a b : Scene) → without_numbers a ≡ without_numbers b → IsRising 1 a.lines → IsRising 1 b.lines → RunAlike (plan_of a) (plan_of b)
 runs_alike a b same r t =
     let plans = plans_alike a b same in
+    let bare : bare_plan (plan_of a) ≡ bare_plan (plan_of b) = ap (λ (P : Plan). record P { picks = [] }) plans in
     let actions = actions_alike a b same r t in
-    record { picks = ap (λ (P : Plan). P.picks) plans; limit = ap (λ (P : Plan). P.limit) plans; picked = usual_picked (plan_of a) (plan_of b) plans actions; runs = usual_run (plan_of a) (plan_of b) plans actions }
+    record { picks = ap (λ (P : Plan). P.picks) plans; limit = ap (λ (P : Plan). P.limit) plans; picked = usual_picked (plan_of a) (plan_of b) bare actions; runs = usual_run (plan_of a) (plan_of b) bare actions }
 
 pub has_runs_too : (input : List ℕ) (scene : Scene) (stands : StandsFor input scene) → first_refusal scene ≡ None → HasRunsToo (canonical_text scene.version stands.ws) scene
 has_runs_too input scene stands none =

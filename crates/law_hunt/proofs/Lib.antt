@@ -1,2 +1,3 @@
 pub mod OfKinds
 pub mod OfTables
+pub mod OfStories

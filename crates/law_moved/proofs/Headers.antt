@@ -12,7 +12,7 @@ header_alike : (form : SceneLine) → header_in (untimed form) ≡ header_in for
 unfolding header_in
 header_alike form = by_form header_in (λ t u a. refl) (λ t u d n. refl) (λ t u d n. refl) (λ t u d c n. refl) (λ t u k. refl) (λ t u a d. refl) form
 
-header_of_any : (o : Option SceneLine) → header_of (option_map untimed o) ≡ header_of o
+pub header_of_any : (o : Option SceneLine) → header_of (option_map untimed o) ≡ header_of o
 header_of_any None = refl
 header_of_any (Some form) = header_alike form
 

@@ -3,3 +3,6 @@ pub mod Forms
 pub mod Scenes
 pub mod Refusals
 pub mod Headers
+pub mod Parts
+pub mod Scripts
+pub mod Plans

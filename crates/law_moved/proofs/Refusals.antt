@@ -82,7 +82,7 @@ module _ (names : List Declaration) where
     abbrev bare : Scene
     bare = untimed_scene s
 
-    expressions_alike : (p : Placed) → nodes_of bare (unplaced p) ≡ nodes_of s p
+    pub expressions_alike : (p : Placed) → nodes_of bare (unplaced p) ≡ nodes_of s p
     unfolding nodes_of
     expressions_alike p = ap (λ n. take (n - p.counts.nodes) (drop p.counts.nodes s.exprs)) (nodes_alike p.counts.nodes p.form)
 

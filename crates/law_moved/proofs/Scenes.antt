@@ -121,11 +121,11 @@ module _ (s : Scene) where
   level_of_any None = refl
   level_of_any (Some b) = level_alike b
 
-  driver_alike : driver_line bare ≡ driver_line s
+  pub driver_alike : driver_line bare ≡ driver_line s
   unfolding driver_line
   driver_alike = position_map untimed_line is_driver_line is_driver_line (λ l. is_driver_alike l.form) s.lines
 
-  effective_alike : (b : ℕ) (device : Option ℕ) → effective_level bare b device ≡ effective_level s b device
+  pub effective_alike : (b : ℕ) (device : Option ℕ) → effective_level bare b device ≡ effective_level s b device
   unfolding effective_level
   effective_alike b device = rw (level_alike b, level_of_any device, driver_alike, level_of_any (driver_line s)) refl
 
@@ -143,7 +143,7 @@ module _ (s : Scene) where
       ∙ ap (λ d. cond (ends_block depth l.form) names (assigned_from (with_assigned names (assigned_name l.form)) d (map untimed_line ls))) (depth_alike depth l.form)
       ∙ ap (λ ns. cond (ends_block depth l.form) names ns) (assigned_alike (with_assigned names (assigned_name l.form)) (depth_after depth l.form) ls)
 
-  variables_of : (k : ℕ) → variables bare k ≡ variables s k
+  pub variables_of : (k : ℕ) → variables bare k ≡ variables s k
   unfolding variables
   variables_of k = ap (assigned_from [] 0) (drop_map untimed_line (suc k) s.lines) ∙ assigned_alike [] 0 (drop (suc k) s.lines)
 

@@ -63,7 +63,8 @@ head_alike most word head.Return e = refl
 
 -- ---- a line as it is written
 
-moved_written : ℕ → ℕ → Written → Written
+-- a line as it is written, moved by a word
+unfoldable pub moved_written : ℕ → ℕ → Written → Written
 moved_written most word (Plain form) = Plain (moved_form most word form)
 moved_written most word w = w
 
@@ -96,7 +97,8 @@ written_alike most word w = refl
 
 -- ---- all lines
 
-moved_writings : ℕ → List ℕ → List WrittenLine → List WrittenLine
+-- lines, each moved by its word
+unfoldable pub moved_writings : ℕ → List ℕ → List WrittenLine → List WrittenLine
 moved_writings most words [] = []
 moved_writings most [] (w ∷ ws) = w ∷ ws
 moved_writings most (word ∷ words) (w ∷ ws) = record w { written = moved_written most word w.written } ∷ moved_writings most words ws
@@ -122,7 +124,7 @@ exprs_alike most (word ∷ words) base (w ∷ ws) =
     let rest = exprs_alike most words (base + written_size w.written) ws in
     cc
 
-are_written_alike : (most : ℕ) (words : List ℕ) (ws : List WrittenLine) → list_all (λ w. is_written w.written) (moved_writings most words ws) ≡ list_all (λ w. is_written w.written) ws
+pub are_written_alike : (most : ℕ) (words : List ℕ) (ws : List WrittenLine) → list_all (λ w. is_written w.written) (moved_writings most words ws) ≡ list_all (λ w. is_written w.written) ws
 unfolding moved_writings
 are_written_alike most words [] = refl
 are_written_alike most [] (w ∷ ws) = refl
@@ -153,12 +155,12 @@ all_after_alike most (word ∷ words) p (l ∷ lines) =
 
 -- ---- the scene
 
-whole_alike : (most version : ℕ) (words : List ℕ) (ws : List WrittenLine) → IsWhole version (map (λ l. l.form) (lines_at 0 ws)) → IsWhole version (map (λ l. l.form) (lines_at 0 (moved_writings most words ws)))
+pub whole_alike : (most version : ℕ) (words : List ℕ) (ws : List WrittenLine) → IsWhole version (map (λ l. l.form) (lines_at 0 ws)) → IsWhole version (map (λ l. l.form) (lines_at 0 (moved_writings most words ws)))
 whole_alike most version words ws whole =
     let same = ap (λ ls. after_lines (Some (front version)) (map (λ l. l.form) ls)) (lines_alike most words 0 ws) ∙ all_after_alike most words (Some (front version)) (lines_at 0 ws) in
     subst (λ s. IsSomeAnd s (λ p. IsTrue (is_outside p))) (sym same) whole
 
-moved_is : (most : ℕ) (words : List ℕ) (scene : Scene) (ws : List WrittenLine) → scene ≡ scene_of scene.version ws → moved_scene most words scene ≡ scene_of scene.version (moved_writings most words ws)
+pub moved_is : (most : ℕ) (words : List ℕ) (scene : Scene) (ws : List WrittenLine) → scene ≡ scene_of scene.version ws → moved_scene most words scene ≡ scene_of scene.version (moved_writings most words ws)
 moved_is most words scene ws is =
     let lines : scene.lines ≡ lines_at 0 ws = ap (λ (s : Scene). s.lines) is in
     let exprs : scene.exprs ≡ exprs_at 0 ws = ap (λ (s : Scene). s.exprs) is in

@@ -1,5 +1,5 @@
 -- A story: picks whose run ends as it should. (own)
-use Rattle.std.specs.Prelude.{ℕ, ◌≡◌, ◌≤◌, ◌&&◌, Bool, List, bytes_eq, length, nat_le}
+use Rattle.std.specs.Prelude.{ℕ, ◌≡◌, ◌<◌, ◌≤◌, ◌^◌, ◌&&◌, All, Bool, List, bytes_eq, length, nat_le}
 use Rattle.wdf_base.specs.declared.event.Event.{Event}
 use Rattle.wdf_model.specs.rules.Ready.{IsPickedRun}
 use Rattle.wdf_dev.specs.Agents.{agent_meaning}
@@ -27,8 +27,11 @@ pub record IsStory (tried : Case) (kind : List ℕ) (most : ℕ) (picks : List �
   pub kind_is : kind_of tried.expectations (plan_of tried.scene) agent_meaning run ≡ kind
   pub few : length run ≤ most
 
--- The picks are a story of a seed: their run is of the kind of the seed's run, and has no more events.
+-- The picks are a story of a seed: their run is of the kind of the seed's run, and has no more events. There are no more picks than
+-- events, and each pick is one that a scenario can have.
 pub record IsStoryOfSeed (tried : Case) (seed : ℕ) (picks : List ℕ) : Type 0 where
   pub run : List Event
   pub picked : IsPickedRun (plan_of tried.scene) agent_meaning (seed_words seed (plan_of tried.scene).limit) run
   pub story : IsStory tried (kind_of tried.expectations (plan_of tried.scene) agent_meaning run) (length run) picks
+  pub few_picks : length picks ≤ length story.run
+  pub short : All (λ pick. pick < 2 ^ 64) picks

@@ -1,5 +1,5 @@
 //! The story of a seed.
-ghost use Rattle.std.specs.Prelude.{◌≡◌, IfOk, OnOk};
+ghost use Rattle.std.specs.Prelude.{◌≡◌, ◌<◌, ◌^◌, All, IfOk, OnOk, take};
 ghost use Rattle.wdf_scene.specs.Naming.{HasProperNames};
 ghost use Rattle.wdf_scene.specs.Written.{IsScene};
 ghost use Rattle.wdf_shrink.specs.Stories.{IsStory, IsStoryOfSeed};
@@ -19,6 +19,27 @@ fn without_zeros(alloc: Global, picks: &[u64]) -> Result<Vec<u64>, Memory> {
     };
     let front = Vec::from_slice(alloc, &picks[..count])?;
     Ok(front)
+}
+
+/// The same picks. Each of them fits 64 bits.
+fn copied(alloc: Global, picks: &[u64]) -> Result<Vec<u64>, Memory>
+    ensures same { IfOk result (λ copy. copy.items ≡ picks.now) }
+    ensures short { IfOk result (λ copy. All (λ pick. pick < 2 ^ 64) copy.items) }
+{
+    let mut copy = Vec::new(alloc);
+    for pick in picks {
+        copy.push(*pick)?;
+    }
+    Ok(copy)
+}
+
+/// The first of some picks, one for each event of a run. No later pick picks anything.
+fn first_picks(alloc: Global, picks: &[u64], events: u64) -> Result<Vec<u64>, Memory>
+    ensures first { IfOk result (λ first. first.items ≡ take events picks.now) }
+    ensures short { IfOk result (λ first. All (λ pick. pick < 2 ^ 64) first.items) }
+{
+    let count = picks.len().min(events as usize);
+    copied(alloc, &picks[..count])
 }
 
 /// Makes picks plainer whose run ends as the goal says.
@@ -52,5 +73,6 @@ pub fn story_of_seed(alloc: Global, case: &Case, seed: u64) -> Result<Vec<u64>, 
     let mut picks = words_of_seed(alloc, seed, u64::from(limit))?;
     let goal = told_of(alloc, case, picks.as_slice())?;
     shrink(alloc, case, &goal, &mut picks)?;
-    Ok(picks)
+    let told = told_of(alloc, case, picks.as_slice())?;
+    first_picks(alloc, picks.as_slice(), told.events)
 }

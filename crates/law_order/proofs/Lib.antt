@@ -1,0 +1,14 @@
+pub mod Lists
+pub mod Shift
+pub mod Moves
+pub mod Refusals
+pub mod Numbers
+pub mod Inserted
+pub mod Parts
+pub mod Scripts
+pub mod Plans
+pub mod Scans
+pub mod Placing
+pub mod Bodies
+pub mod Cut
+pub mod Order

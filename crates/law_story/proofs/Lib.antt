@@ -1,0 +1,11 @@
+pub mod Split
+pub mod Positions
+pub mod Unpicked
+pub mod Lines
+pub mod Texts
+pub mod Cuts
+pub mod Again
+pub mod Written
+pub mod Stories
+pub mod Moved
+pub mod Seeds
