@@ -84,7 +84,8 @@ wrong in any way that the prover lets through, and what is promised still holds.
 - [`main`](../crates/kmdfsim/src/main.rt), which has no contract. Its one call hands the system's arguments and streams to `serve`,
   and it ends with the status that `serve` answers.
 - The toolchain: the prover's logic, what it takes a struct or an enum to mean, the compiler, the C library, the processor. Then
-  what the kit states of its libraries: {kits}. `rt version` names the kit, and `README.md` says with which this was proved.
+  the definitions of the kit's libraries: {kits}. And that the kit's crates which the code calls meet their contracts;
+  `docs/PROVED.md` lists them. `rt version` names the kit, and `README.md` says with which this was proved.
 - The system's streams: no contract can say what a file or a terminal gives or takes. What is said of bytes is said of a
   reader and a writer that say theirs.
 - That the written machine is the Kernel-Mode Driver Framework in the stated profile. Each rule of `docs/RULES.md` names its

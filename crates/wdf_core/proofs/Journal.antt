@@ -158,6 +158,10 @@ module _ {A : Type 0} (m : Meaning A) (plan : Plan) (journal : List Event) (S : 
   pub some_allowed : (n : ℕ) → goes_on plan journal ≡ true → n ≡ length (allowed plan m (state_after plan m journal)) → 0 < n → n ≡ length (ready plan m journal)
   some_allowed n h e some = some_by (allowed plan m (state_after plan m journal)) n e some ∙ ap length (sym (ready_going h))
 
+  -- where some group offers an event, one may follow
+  pub some_follows : goes_on plan journal ≡ true → 0 < length (events_of plan m S all) → nat_lt 0 (length (ready plan m journal)) ≡ true
+  some_follows h some = let e = some_allowed (length (events_of plan m S all)) h (ap length found) some in lt-ltb 0 (length (ready plan m journal)) (omega arith)
+
   tick_by : (xs : List Event) (b : Bool) (n : ℕ) → length xs ≡ 0 → waits_for_time m (state_after plan m journal) ≡ b → n ≡ (if b then 1 else 0) → n ≡ length (or_tick m (state_after plan m journal) xs)
   tick_by [] true n e w h = rw w h
   tick_by [] false n e w h = rw w h

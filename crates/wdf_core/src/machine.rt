@@ -21,8 +21,8 @@ use wdf_model::Group;
 use wdf_parts::Parts;
 use wdf_plan_index::IndexedPlan;
 use wdf_ready::{
-    KeptCounts, Side, allowed_at, first_by, first_of, groups_of, is_allowed, is_by, is_of, is_open,
-    waits_for_time,
+    KeptCounts, Side, allowed_at, any_own, first_by, first_of, groups_of, is_allowed, is_by, is_of,
+    is_open, waits_for_time,
 };
 use wdf_same::same_event;
 use wdf_steps::step;
@@ -299,10 +299,24 @@ impl<A: Agent> Core<A> {
         }
     }
 
-    /// Whether an event may follow. It doesn't count how many may.
+    /// Whether the top frame of a processor has an event that may follow. Nothing but the top frames is looked at.
+    fn any_runs(&self) -> bool
+        ensures { IsTrue result → nat_lt 0 (length (ready self.now.plan A.meaning self.now.journal)) ≡ true }
+    {
+        let _ = &self.plan;
+        if !self.goes_on() {
+            return false;
+        }
+        any_own(&self.plan, &self.parts, &self.groups)
+    }
+
+    /// Whether an event may follow. It doesn't count how many may, and looks at the top frames first.
     pub fn any_ready(&self) -> bool
         ensures { result ≡ nat_lt 0 (length (ready self.now.plan A.meaning self.now.journal)) }
     {
+        if self.any_runs() {
+            return true;
+        }
         self.first_ready().is_some()
     }
 

@@ -10,3 +10,4 @@ pub mod Counting
 pub mod Ticks
 pub mod Leasts
 mod Nexts
+mod Apart

@@ -2,13 +2,18 @@
 use Rattle.std.proofs.Common.{◌≡◌, ℕ, ◌+◌, ◌<◌, ◌≤◌, Bool, true, false, List, Option, Some, None, refl, ap, sym, ◌∙◌, arith}
 use Rattle.std.specs.Option.{option_map}
 use Rattle.wdf_base.specs.declared.frame.Frame.{Frame}
+use Rattle.wdf_base.specs.declared.frame.Change.{Change}
+use Rattle.wdf_base.specs.declared.frame.Change.TheVariants as change
 use Rattle.wdf_base.specs.declared.ids.ObjectId.{ObjectId}
 use Rattle.wdf_model.specs.declared.room.TheConstants.{OBJECTS}
 use Rattle.wdf_model.specs.Tables.{entry, flag, same_id}
 use Rattle.wdf_model.specs.parts.Cpus.{Cpus}
+use Rattle.wdf_model.specs.rules.Steps.{changed}
 use Rattle.wdf_maps.specs.Counts.{is_at, moved_count}
 use Rattle.wdf_maps.proofs.Counting.{at_moved}
-use Rattle.wdf_cpu.specs.Keys.{CountsFrames, Swapped, keyed}
+use Rattle.wdf_cpu.specs.Going.{gone}
+use Rattle.wdf_cpu.specs.declared.going.Going.{Going}
+use Rattle.wdf_cpu.specs.Keys.{CountsFrames, Swapped, keyed, object_key}
 
 -- what is of an id
 at_same : (id : ℕ) (o : Option ObjectId) → is_at id o ≡ same_id (option_map (λ (x : ObjectId). x.0) o) id
@@ -37,6 +42,19 @@ pub swapped_by : (counts counts' : List ℕ) (from to : Option ObjectId) (left c
     → ((id : ℕ) → id < OBJECTS → same_id left id ≡ true → 1 ≤ entry 0 counts id) → Swapped left came counts counts'
 swapped_by counts counts' from to left came e f t some =
     rw (e, sym f, sym t) (moved_swaps counts from to (λ id h s. some id h (ap (λ k. same_id k id) (sym f) ∙ s)))
+
+-- a frame that goes on stays on its object
+pub gone_object : (going : Going) (frame : Frame) → object_key (gone going frame) ≡ object_key frame
+gone_object going frame = by_change going.change
+  where
+    by_change : (c : Change) → object_key (changed frame c) ≡ object_key frame
+    by_change (change.Assign variable v) = refl
+    by_change change.Branch = refl
+    by_change (change.Count depth left) = refl
+
+-- what is counted where it was leaves the counts as they are
+pub stays_counted : (counts : List ℕ) (left came : Option ℕ) → came ≡ left → Swapped left came counts counts
+stays_counted counts left came same = rw same (record { counted = λ id h. refl })
 
 -- where none left, nothing is asked of the counts
 pub none_left : (counts : List ℕ) (id : ℕ) → id < OBJECTS → same_id None id ≡ true → 1 ≤ entry 0 counts id

@@ -2,13 +2,13 @@
 use Rattle.std.specs.Prelude.{ℕ, ◌≡◌, ◌≤◌, ◌==◌, Bool, false, List, length, count_by, vec_capacity}
 use Rattle.wdf_model.specs.declared.room.TheConstants.{FRAMES}
 use Rattle.wdf_model.specs.Tables.{entry, flag}
-use Rattle.wdf_model.specs.parts.Cpus.{Cpus, all_frames, blank_frame, frame_level}
+use Rattle.wdf_model.specs.parts.Cpus.{Cpus, all_frames, frame_level}
 use Rattle.wdf_cpu.specs.Spending.{SpendUntil}
 use Rattle.wdf_cpu.specs.Keys.{CountsFrames, object_key, wait_key}
 use Rattle.wdf_cpu.specs.declared.cpus.Cpus.TheInside.{Inside}
 
 abbrev pub cpus_in : Inside → Cpus
-cpus_in a = record { frames = a.frames.items; stacks = a.stacks.items; parked = a.parked.entries; levels = a.levels }
+cpus_in a = record { frames = a.frames; stacks = a.stacks.items; parked = a.parked.entries; levels = a.levels }
 
 -- Each frame that runs or is parked is so once, and is one of the live ones.
 pub record IsLive (C : Cpus) (live : List Bool) : Type 0 where
@@ -27,10 +27,8 @@ pub record IsKept (C : Cpus) (flags : List Bool) (levels counts awaited : List �
   pub waits : CountsFrames wait_key C awaited
 
 pub record IsSound (a : Inside) : Type 0 where
-  pub frames_room : FRAMES ≤ vec_capacity a.frames
   pub live_room : FRAMES ≤ vec_capacity a.live
   pub peaks_room : FRAMES ≤ vec_capacity a.peaks
   pub parked_room : FRAMES ≤ a.parked.room
-  pub blank : a.blank ≡ blank_frame
   pub kept : IsKept (cpus_in a) a.live.items a.peaks.items a.on a.waits
   pub untils : SpendUntil (cpus_in a) a.untils

@@ -4,5 +4,7 @@ pub mod LevelCounts
 pub mod FrameTests
 pub mod Spending
 pub mod InUntils
+pub mod Going
+pub mod InSlots
 pub mod Kept
 pub mod Occupied

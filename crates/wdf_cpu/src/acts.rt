@@ -1,13 +1,12 @@
 //! What begins, goes on, ends, parks and comes back.
-ghost use Rattle.std.specs.Prelude.{◌≡◌, ◌+◌, ◌^◌, ◌<◌, if◌then◌else◌, false, true, length, IsSome, Some, vec_capacity};
-ghost use Rattle.std.specs.Option.{option_map};
-ghost use Rattle.wdf_model.specs.Tables.{change_at, contains};
-ghost use Rattle.wdf_model.specs.declared.entries.Running.{Running};
+ghost use Rattle.std.specs.Prelude.{◌≡◌, ◌+◌, ◌^◌, ◌<◌, if◌then◌else◌, false, true, length, IsSome};
+ghost use Rattle.wdf_model.specs.Tables.{contains};
 ghost use Rattle.wdf_model.specs.parts.Cpus as cpus;
-ghost use Rattle.wdf_model.specs.parts.Cpus.{no_frame};
 ghost use Rattle.wdf_maps.specs.Counts.{count_at, moved_count};
+ghost use Rattle.wdf_cpu.specs.Going.{gone};
 
-use crate::cpus::{Cpus, NO_FRAME, object_key, wait_key};
+use crate::cpus::{Cpus, object_key, wait_key};
+use crate::going::{Going, awaits};
 use crate::stack::{pop_from, push_on};
 use crate::untils::move_until_if;
 use wdf_base::{Cpu, Frame, FrameId, Irql, ObjectId};
@@ -27,7 +26,7 @@ impl Cpus {
         self.on.moves(None, object_key(&frame));
         self.waits.moves(None, wait_key(&frame));
         self.untils.moves(0, frame.until);
-        put_at(&mut self.frames, NO_FRAME, f.0, Running { frame, level });
+        self.frames.put(f.0, Running { frame, level });
         put_at(&mut self.live, false, f.0, true);
         put_at(&mut self.peaks, 0, f.0, self.levels.peak(f, level).0);
         push_on(&mut self.stacks, cpu, f.0);
@@ -40,13 +39,29 @@ impl Cpus {
         ensures frames { length self.new.frames ≡ length self.old.frames }
     {
         let live = entry_at(&self.live, false, f.0);
-        let object = object_key(&self.frames[f.0 as usize].frame);
-        let awaited = wait_key(&self.frames[f.0 as usize].frame);
-        let until = self.frames[f.0 as usize].frame.until;
+        let now = &self.frames.running(f.0).frame;
+        let object = object_key(now);
+        let awaited = wait_key(now);
+        let until = now.until;
         moves_if(&mut self.on, live, object, object_key(&frame));
         moves_if(&mut self.waits, live, awaited, wait_key(&frame));
         move_until_if(&mut self.untils, live, until, frame.until);
-        set_frame(&mut self.frames, f, frame);
+        self.frames.change(f.0, frame);
+    }
+
+    /// A frame goes on in its place.
+    pub fn go_on(&mut self, f: FrameId, going: &Going)
+        requires there { f.0 < length self.old.frames }
+        ensures done { self.new ≡ cpus.change self.old f.0 (gone going.now (cpus.frame_of self.old f.0)) }
+        ensures frames { length self.new.frames ≡ length self.old.frames }
+    {
+        let live = entry_at(&self.live, false, f.0);
+        let now = &self.frames.running(f.0).frame;
+        let awaited = wait_key(now);
+        let until = now.until;
+        moves_if(&mut self.waits, live, awaited, awaits(going));
+        move_until_if(&mut self.untils, live, until, going.until);
+        self.frames.go_on(f.0, going);
     }
 
     /// A frame holds a level more.
@@ -66,28 +81,29 @@ impl Cpus {
         ensures { self.new ≡ cpus.lower self.old f.0 level.0 }
     {
         self.levels.lower(f, level);
-        let own = entry_at(&self.frames, NO_FRAME, f.0).level;
+        let own = self.frames.running(f.0).level;
         put_at(&mut self.peaks, 0, f.0, self.levels.peak(f, own).0);
     }
 
     /// The top frame of a processor ends. The levels that it holds are gone with it.
-    pub fn pop(&mut self, cpu: Cpu) -> Frame
+    pub fn pop(&mut self, cpu: Cpu)
         requires there { cpu.0 < length self.old.stacks }
         requires running { IsSome (cpus.top self.old cpu.0) }
-        ensures frame { option_map (cpus.frame_of self.old) (cpus.top self.old cpu.0) ≡ Some result }
         ensures done { self.new ≡ cpus.pop self.old cpu.0 }
         ensures size { length self.new.stacks ≡ length self.old.stacks }
     {
         let f = FrameId(pop_from(&mut self.stacks, cpu).unwrap());
-        let frame = entry_at(&self.frames, NO_FRAME, f.0).frame;
-        self.on.moves(object_key(&frame), None);
-        self.waits.moves(wait_key(&frame), None);
-        self.untils.moves(frame.until, 0);
-        put_at(&mut self.frames, NO_FRAME, f.0, NO_FRAME);
+        let frame = &self.frames.running(f.0).frame;
+        let object = object_key(frame);
+        let awaited = wait_key(frame);
+        let until = frame.until;
+        self.on.moves(object, None);
+        self.waits.moves(awaited, None);
+        self.untils.moves(until, 0);
+        self.frames.remove(f.0);
         put_at(&mut self.live, false, f.0, false);
         put_at(&mut self.peaks, 0, f.0, 0);
         self.levels.forget(f);
-        frame
     }
 
     /// The top frame of a processor, which waits, leaves it. Nothing changes where there is none. (own)
@@ -121,14 +137,4 @@ fn moves_if(counts: &mut Tally, live: bool, from: Option<ObjectId>, to: Option<O
     if live {
         counts.moves(from, to);
     }
-}
-
-/// Writes what a frame is; its level stays.
-fn set_frame(frames: &mut Vec<Running>, f: FrameId, frame: Frame)
-    requires { f.0 < length frames.old.items }
-    ensures changed { frames.new.items ≡ change_at no_frame frames.old.items f.0 (λ (r : Running). record r { frame = frame }) }
-    ensures size { length frames.new.items ≡ length frames.old.items }
-    ensures capacity { vec_capacity frames.new ≡ vec_capacity frames.old }
-{
-    frames[f.0 as usize].frame = frame;
 }

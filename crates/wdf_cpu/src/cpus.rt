@@ -4,6 +4,7 @@ ghost use Rattle.wdf_model.specs.parts.Cpus.{opening_cpus, no_frame};
 ghost use Rattle.wdf_cpu.specs.Keys.{object_key, wait_key};
 
 use crate::levels::Levels;
+use crate::slots::FrameSlots;
 use crate::stack::Stack;
 use crate::untils::Untils;
 use std::alloc::Global;
@@ -43,7 +44,7 @@ pub(crate) const NO_FRAME: Running = Running {
 #[derive(Drop)]
 pub struct Cpus {
     /// The frames by number.
-    pub(crate) frames: Vec<Running>,
+    pub(crate) frames: FrameSlots,
     /// The frames of each processor.
     pub(crate) stacks: Vec<Stack>,
     /// The numbers of the frames that left their processor, rising.
@@ -60,8 +61,6 @@ pub struct Cpus {
     pub(crate) waits: Tally,
     /// The ticks until which these frames spend.
     pub(crate) untils: Untils,
-    /// What a number says that is no frame's.
-    pub(crate) blank: Frame,
 }
 
 impl Model for Cpus {
@@ -83,7 +82,7 @@ impl Cpus {
         ensures { IfOk result (λ c. c ≡ opening_cpus plan.now) }
     {
         Ok(Cpus {
-            frames: Vec::with_capacity(alloc, FRAMES as usize)?,
+            frames: FrameSlots::make(alloc)?,
             stacks: empty_stacks(alloc, plan.cpus())?,
             parked: Rising::make(alloc, FRAMES)?,
             levels: Levels::make(alloc)?,
@@ -92,7 +91,6 @@ impl Cpus {
             on: Tally::make(alloc)?,
             waits: Tally::make(alloc)?,
             untils: Untils::make(alloc)?,
-            blank: NO_FRAME.frame,
         })
     }
 

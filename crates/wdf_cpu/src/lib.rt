@@ -1,14 +1,25 @@
 //! The processors of a run: which callbacks run or wait where, and how high.
+//!
+//! # Choices
+//!
+//! - **Where are the frames?** In the kit's `slab`, and beside it one more than the key of each number's slot. The number of a
+//!   frame is that of its event, and few frames are there at a time. A list of all numbers would have an entry of 504
+//!   bytes for each event. A slot names its number, so two numbers never share one. A frame that ends gives its slot
+//!   back. The room of all is taken before the run; memory that is not touched costs nothing.
+//! - **How does a frame go on?** In its slot: a [`Going`] says what changes, and the rest isn't copied.
 #![tactic(auto)]
 
 mod acts;
 mod cpus;
 mod frame_test;
 mod frames;
+mod going;
 mod levels;
 mod order;
 mod readers;
+mod slots;
 mod stack;
 mod untils;
 
 pub use cpus::Cpus;
+pub use going::Going;

@@ -89,10 +89,7 @@ impl Cpus {
     pub fn frame(&self, f: FrameId) -> &Frame
         ensures { result.now ≡ cpus.frame_of self.now f.0 }
     {
-        match self.frames.get(f.0 as usize) {
-            Some(running) => &running.frame,
-            None => &self.blank,
-        }
+        &self.frames.running(f.0).frame
     }
 
     /// The level of a frame: the greatest of its callback's and of those that it holds.

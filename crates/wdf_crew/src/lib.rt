@@ -7,14 +7,15 @@
 //!   that isn't. So it is proved once, for any value that has a history.
 //! - **Whose seat is the first?** A worker's, as each seat is: there is one seat for each worker. It is the last of
 //!   the row, so that the others are taken off first and joined into it.
-//! - **When does a worker stop early?** Where it has the value and nothing may follow; and where in 33 of its turns, one
-//!   after the other, nobody added anything. So a run ends soon where no thread can be made: each worker then waits for
-//!   others that don't run, leaves, and the caller does the rest.
+//! - **When does a worker stop early?** Where it has the value and nothing may follow; and where in 33 of its turns it had
+//!   the value and nothing to add, while nobody added anything. So a run ends soon where no thread can be made: each worker
+//!   then waits for others that don't run, leaves, and the caller does the rest.
 //! - **What does a worker do after a turn that added nothing?** It looks up to a hundred times whether the history has
 //!   grown, before its next turn. Without that it would use all its turns up while one event is done, and the caller
 //!   would do the run; and it would search the machine anew though nothing has changed. It waits for nobody: the looks
 //!   are counted. Between two looks it calls `rest` of the gate. That of the program sleeps, so that on a busy machine
-//!   no idle worker takes the processor of one that has work.
+//!   no idle worker takes the processor of one that has work. A worker that didn't get the value looks fewer times: it may
+//!   be the only one that can go on, and all others would wait for it.
 //! - **How does who waits for the workers learn that they have ended?** One seat takes the value once more and tells it. The
 //!   turnstile isn't closed for that: a closure that holds a turnstile can't be proved, one that borrows it can.
 #![tactic(auto)]

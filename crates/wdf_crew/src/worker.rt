@@ -29,39 +29,44 @@ impl Shift {
 /// How often, at most, a worker whose turn added nothing looks whether the history has grown, before its next turn.
 const LOOKS: u32 = 100;
 
-/// After so many turns in which nobody added anything a worker leaves in the next. What it leaves, the caller does.
+/// The same for a worker that didn't get the value: who has it gives it back soon, and it may be that nobody else can go on.
+const BUSY_LOOKS: u32 = 61;
+
+/// After so many turns that found nothing to add, and in which nobody added anything, a worker leaves in the next. What it
+/// leaves, the caller does.
 const VAIN_TURNS: u32 = 32;
 
-/// A turn: one try to take the value, one event at most, and the value goes back.
-fn take_turn<T: Advance>(turn: &Turn<T>, seat: &mut Seat<T>, crew: Crew) -> Progress
+/// A turn: one try to take the value, one event at most, and the value goes back. `None` where another worker has it.
+fn take_turn<T: Advance>(turn: &Turn<T>, seat: &mut Seat<T>, crew: Crew) -> Option<Progress>
     requires { IsIdleSeat turn.now seat.old }
     ensures idle { IsIdleSeat turn.now seat.new }
     ensures same { IsSameSeat seat.old seat.new }
 {
     match turn.try_take(seat) {
-        Attempt::Busy(_) => Progress::Waits,
+        Attempt::Busy(_) => None,
         Attempt::Taken(mut held) => {
             let progress = held.value_mut().advance(crew);
             turn.give(seat, held);
-            progress
+            Some(progress)
         }
     }
 }
 
-/// Lets other threads run until the history is longer than this, and answers true; false where it was looked at so many
-/// times in vain. So a worker that has nothing to do keeps the value from no other, and uses its turns up slowly. No clause
+/// Lets other threads run until the history is longer than this, and answers true; false where it was looked at that often
+/// in vain. So a worker that has nothing to do keeps the value from no other, and uses its turns up slowly. No clause
 /// says that it looks.
 fn await_growth<T: Advance, G: Gate>(
     turn: &Turn<T>,
     seat: &mut Seat<T>,
     length: u64,
+    looks: u32,
     gate: &G,
 ) -> bool
     requires { IsIdleSeat turn.now seat.old }
     ensures idle { IsIdleSeat turn.now seat.new }
     ensures same { IsSameSeat seat.old seat.new }
 {
-    for look in 0..LOOKS {
+    for look in 0..looks {
         gate.rest(look);
         if turn.seen(seat) > length {
             return true;
@@ -71,27 +76,28 @@ fn await_growth<T: Advance, G: Gate>(
 }
 
 /// A turn, and after one that added nothing the wait for the next. It comes to `Added` where the history has grown, by
-/// this worker or by another.
+/// this worker or by another; and to `None` where it hasn't, and the worker didn't get the value.
 fn turn_and_wait<T: Advance, G: Gate>(
     turn: &Turn<T>,
     seat: &mut Seat<T>,
     crew: Crew,
     gate: &G,
-) -> Progress
+) -> Option<Progress>
     requires { IsIdleSeat turn.now seat.old }
     ensures idle { IsIdleSeat turn.now seat.new }
     ensures same { IsSameSeat seat.old seat.new }
 {
     let length = turn.seen(seat);
-    match take_turn(turn, seat, crew) {
-        Progress::Waits => {
-            if await_growth(turn, seat, length, gate) {
-                Progress::Added
-            } else {
-                Progress::Waits
-            }
-        }
-        progress => progress,
+    let progress = take_turn(turn, seat, crew);
+    let looks = match progress {
+        None => BUSY_LOOKS,
+        Some(Progress::Waits) => LOOKS,
+        Some(_) => return progress,
+    };
+    if await_growth(turn, seat, length, looks, gate) {
+        Some(Progress::Added)
+    } else {
+        progress
     }
 }
 
@@ -114,9 +120,10 @@ fn work<T: Advance, G: Gate>(
     for k in 0..shift.turns {
         gate.pass(number, k);
         match turn_and_wait(turn, seat, crew, gate) {
-            Progress::Added => vain = 0,
-            Progress::Waits if vain < VAIN_TURNS => vain += 1,
-            _ => return,
+            Some(Progress::Added) => vain = 0,
+            Some(Progress::Waits) if vain < VAIN_TURNS => vain += 1,
+            None => {}
+            Some(_) => return,
         }
     }
 }

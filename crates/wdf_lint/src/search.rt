@@ -11,7 +11,7 @@ ghost use Rattle.wdf_lint.specs.contracts.state.AbstractPartialEq.TheImpl as der
 
 use crate::paths::Paths;
 use crate::state::Abstract;
-use crate::steps::steps;
+use crate::steps::add_steps;
 use crate::walked::{Walked, line_at, start};
 use indexmap::IndexSet;
 use std::alloc::Global;
@@ -57,8 +57,7 @@ fn after_all(
 {
     let mut after = Vec::new(alloc);
     for a in states {
-        let mut more = steps(alloc, plan, w, a)?;
-        after.append(&mut more)?;
+        add_steps(&mut after, alloc, plan, w, a)?;
     }
     Ok(after)
 }

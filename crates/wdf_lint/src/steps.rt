@@ -1,5 +1,5 @@
 //! The states after a state.
-ghost use Rattle.std.specs.Prelude.{◌≡◌, IfOk, [], ◌∷◌, map};
+ghost use Rattle.std.specs.Prelude.{◌≡◌, IfOk, OnOk, [], ◌∷◌, ◌++◌, map};
 ghost use Rattle.wdf_lint.specs.Steps as spec;
 ghost use Rattle.wdf_lint.specs.Abstracts as abstract_;
 ghost use Rattle.wdf_lint.specs.Walked.{IsOf};
@@ -55,129 +55,151 @@ fn answer(a: Abstract, into: Option<u8>, known: Known) -> Abstract
     }
 }
 
-// A list of one state.
-fn one(alloc: Global, a: Abstract) -> Result<Vec<Abstract>, Memory>
-    ensures { IfOk result (λ v. v.items ≡ a ∷ []) }
+// Adds a state at a statement.
+fn add_at(after: &mut Vec<Abstract>, alloc: Global, a: &Abstract, at: u32) -> Result<(), Memory>
+    ensures { OnOk result (after.new.items ≡ after.old.items ++ abstract_.go a.now at ∷ []) }
 {
-    let mut after = Vec::new(alloc);
-    after.push(a)?;
-    Ok(after)
-}
-
-// A list of two.
-fn two(alloc: Global, a: Abstract, b: Abstract) -> Result<Vec<Abstract>, Memory>
-    ensures { IfOk result (λ v. v.items ≡ a ∷ b ∷ []) }
-{
-    let mut after = Vec::new(alloc);
-    after.push(a)?;
+    let b = go(a.copy(alloc)?, at);
     after.push(b)?;
-    Ok(after)
+    Ok(())
 }
 
-fn branches(
+// Adds a state at each of two statements.
+fn add_both(
+    after: &mut Vec<Abstract>,
+    alloc: Global,
+    a: &Abstract,
+    first: u32,
+    second: u32,
+) -> Result<(), Memory>
+    ensures { OnOk result (after.new.items ≡ after.old.items ++ abstract_.go a.now first ∷ abstract_.go a.now second ∷ []) }
+{
+    add_at(after, alloc, a, first)?;
+    add_at(after, alloc, a, second)
+}
+
+// Adds the state whose variable is assigned.
+fn add_assigned(
+    after: &mut Vec<Abstract>,
+    alloc: Global,
+    a: &Abstract,
+    next: u32,
+    variable: u8,
+    known: Known,
+) -> Result<(), Memory>
+    ensures { OnOk result (after.new.items ≡ after.old.items ++ abstract_.go (abstract_.assign a.now variable known) next ∷ []) }
+{
+    let b = go(assign(a.copy(alloc)?, variable, known), next);
+    after.push(b)?;
+    Ok(())
+}
+
+fn add_branches(
+    after: &mut Vec<Abstract>,
     alloc: Global,
     a: &Abstract,
     next: u32,
     otherwise: u32,
     holds: Option<bool>,
-) -> Result<Vec<Abstract>, Memory>
-    ensures { IfOk result (λ v. v.items ≡ spec.branches a.now next otherwise holds) }
+) -> Result<(), Memory>
+    ensures { OnOk result (after.new.items ≡ after.old.items ++ spec.branches a.now next otherwise holds) }
 {
     match holds {
-        None => two(
-            alloc,
-            go(a.copy(alloc)?, next),
-            go(a.copy(alloc)?, otherwise),
-        ),
-        Some(true) => one(alloc, go(a.copy(alloc)?, next)),
-        Some(false) => one(alloc, go(a.copy(alloc)?, otherwise)),
+        None => add_both(after, alloc, a, next, otherwise),
+        Some(true) => add_at(after, alloc, a, next),
+        Some(false) => add_at(after, alloc, a, otherwise),
     }
 }
 
-fn by_way(
-    a: &Abstract,
-    alloc: Global,
+/// Where a call goes on, and the variable that its answer goes to.
+#[derive(Clone, Copy)]
+struct Onward {
     next: u32,
     into: Option<u8>,
+}
+
+// The state after a call that leaves the request so, with this answer.
+fn by_way(mut a: Abstract, to: Onward, hold: Hold, known: Known) -> Abstract
+    ensures { result ≡ spec.by_way a to.next to.into (spec.way hold known) }
+{
+    a.hold = hold;
+    go(answer(a, to.into, known), to.next)
+}
+
+// Adds that state.
+fn add_way(
+    after: &mut Vec<Abstract>,
+    alloc: Global,
+    a: &Abstract,
+    to: Onward,
     hold: Hold,
     known: Known,
-) -> Result<Abstract, Memory>
-    ensures { IfOk result (λ b. b ≡ spec.by_way a.now next into (spec.way hold known)) }
+) -> Result<(), Memory>
+    ensures { OnOk result (after.new.items ≡ after.old.items ++ spec.by_way a.now to.next to.into (spec.way hold known) ∷ []) }
 {
-    let mut b = a.copy(alloc)?;
-    b.hold = hold;
-    Ok(go(answer(b, into, known), next))
-}
-
-fn three(alloc: Global, a: Abstract, b: Abstract, c: Abstract) -> Result<Vec<Abstract>, Memory>
-    ensures { IfOk result (λ v. v.items ≡ a ∷ b ∷ c ∷ []) }
-{
-    let mut after = Vec::new(alloc);
-    after.push(a)?;
+    let b = by_way(a.copy(alloc)?, to, hold, known);
     after.push(b)?;
-    after.push(c)?;
-    Ok(after)
+    Ok(())
 }
 
-// The states after a call that breaks no rule, where `a` is what the call leaves of locks and acknowledgement.
-fn by_ways(
+fn add_ways_of_unmarking(
+    after: &mut Vec<Abstract>,
     alloc: Global,
     a: &Abstract,
-    next: u32,
-    into: Option<u8>,
+    to: Onward,
+    held: Hold,
+) -> Result<(), Memory>
+    ensures { OnOk result (after.new.items ≡ after.old.items ++ map (spec.by_way a.now to.next to.into) (spec.ways_of_unmarking held)) }
+{
+    let cancelled = Known::Stat(Status::Cancelled);
+    let invalid = Known::Stat(Status::InvalidDeviceRequest);
+    match held {
+        Hold::Marked => {
+            add_way(after, alloc, a, to, Hold::Own, Known::Stat(Status::Success))?;
+            add_way(after, alloc, a, to, Hold::Away, cancelled)?;
+            add_way(after, alloc, a, to, Hold::Away, invalid)
+        }
+        _ => {
+            add_way(after, alloc, a, to, held, cancelled)?;
+            add_way(after, alloc, a, to, held, invalid)
+        }
+    }
+}
+
+// Adds the states after a call that breaks no rule, where `a` is what the call leaves of locks and acknowledgement.
+fn add_ways(
+    after: &mut Vec<Abstract>,
+    alloc: Global,
+    a: &Abstract,
+    to: Onward,
     kind: CallKind,
     held: Hold,
-) -> Result<Vec<Abstract>, Memory>
-    ensures { IfOk result (λ v. v.items ≡ map (spec.by_way a.now next into) (spec.ways kind held)) }
+) -> Result<(), Memory>
+    ensures { OnOk result (after.new.items ≡ after.old.items ++ map (spec.by_way a.now to.next to.into) (spec.ways kind held)) }
 {
     let success = Known::Stat(Status::Success);
     let cancelled = Known::Stat(Status::Cancelled);
     let invalid = Known::Stat(Status::InvalidDeviceRequest);
     match kind {
         CallKind::WdfRequestComplete | CallKind::WdfRequestRequeue => {
-            one(
-                alloc,
-                by_way(a, alloc, next, into, Hold::Away, Known::Unknown)?,
-            )
+            add_way(after, alloc, a, to, Hold::Away, Known::Unknown)
         }
-        CallKind::WdfRequestForwardToIoQueue => three(
-            alloc,
-            by_way(a, alloc, next, into, Hold::Away, success)?,
-            by_way(a, alloc, next, into, Hold::Own, invalid)?,
-            by_way(
-                a,
-                alloc,
-                next,
-                into,
-                Hold::Own,
-                Known::Stat(Status::WdfBusy),
-            )?,
-        ),
-        CallKind::WdfRequestSend => two(
-            alloc,
-            by_way(a, alloc, next, into, Hold::Away, Known::One)?,
-            by_way(a, alloc, next, into, Hold::Own, Known::Zero)?,
-        ),
-        CallKind::WdfRequestMarkCancelableEx => three(
-            alloc,
-            by_way(a, alloc, next, into, Hold::Marked, success)?,
-            by_way(a, alloc, next, into, Hold::Own, cancelled)?,
-            by_way(a, alloc, next, into, Hold::Own, invalid)?,
-        ),
-        CallKind::WdfRequestUnmarkCancelable => match held {
-            Hold::Marked => three(
-                alloc,
-                by_way(a, alloc, next, into, Hold::Own, success)?,
-                by_way(a, alloc, next, into, Hold::Away, cancelled)?,
-                by_way(a, alloc, next, into, Hold::Away, invalid)?,
-            ),
-            _ => two(
-                alloc,
-                by_way(a, alloc, next, into, held, cancelled)?,
-                by_way(a, alloc, next, into, held, invalid)?,
-            ),
-        },
-        _ => one(alloc, by_way(a, alloc, next, into, held, Known::Unknown)?),
+        CallKind::WdfRequestForwardToIoQueue => {
+            add_way(after, alloc, a, to, Hold::Away, success)?;
+            add_way(after, alloc, a, to, Hold::Own, invalid)?;
+            add_way(after, alloc, a, to, Hold::Own, Known::Stat(Status::WdfBusy))
+        }
+        CallKind::WdfRequestSend => {
+            add_way(after, alloc, a, to, Hold::Away, Known::One)?;
+            add_way(after, alloc, a, to, Hold::Own, Known::Zero)
+        }
+        CallKind::WdfRequestMarkCancelableEx => {
+            add_way(after, alloc, a, to, Hold::Marked, success)?;
+            add_way(after, alloc, a, to, Hold::Own, cancelled)?;
+            add_way(after, alloc, a, to, Hold::Own, invalid)
+        }
+        CallKind::WdfRequestUnmarkCancelable => add_ways_of_unmarking(after, alloc, a, to, held),
+        _ => add_way(after, alloc, a, to, held, Known::Unknown),
     }
 }
 
@@ -247,51 +269,52 @@ fn called(
     }
 }
 
-// The states after a call.
-fn after_call(
+// Adds the states after a call.
+fn add_after_call(
+    after: &mut Vec<Abstract>,
     alloc: Global,
     plan: &Plan,
     w: &Walked,
     a: &Abstract,
-    next: u32,
+    to: Onward,
     kind: CallKind,
-    into: Option<u8>,
     x: Option<ExprNode>,
     rule: Option<Fault>,
-) -> Result<Vec<Abstract>, Memory>
+) -> Result<(), Memory>
     requires { IsOf plan.now w.now }
-    ensures { IfOk result (λ v. v.items ≡ spec.after_call plan.now w.now.script a.now next kind into x rule) }
+    ensures { OnOk result (after.new.items ≡ after.old.items ++ spec.after_call plan.now w.now.script a.now to.next kind to.into x rule) }
 {
     match rule {
-        Some(_) => one(
-            alloc,
-            go(answer(a.copy(alloc)?, into, Known::Unknown), next),
-        ),
+        Some(_) => {
+            let b = go(answer(a.copy(alloc)?, to.into, Known::Unknown), to.next);
+            after.push(b)?;
+            Ok(())
+        }
         None => {
             let b = called(alloc, plan, w, a.copy(alloc)?, kind, x)?;
-            by_ways(alloc, &b, next, into, kind, a.hold)
+            add_ways(after, alloc, &b, to, kind, a.hold)
         }
     }
 }
 
-/// The states after one at a statement.
-pub fn steps_at(
+// Adds the states after one at a statement.
+fn add_steps_at(
+    after: &mut Vec<Abstract>,
     alloc: Global,
     plan: &Plan,
     w: &Walked,
     a: &Abstract,
     statement: Option<Statement>,
-) -> Result<Vec<Abstract>, Memory>
+) -> Result<(), Memory>
     requires { IsOf plan.now w.now }
-    ensures { IfOk result (λ v. v.items ≡ spec.steps_at plan.now w.now.script a.now statement) }
+    ensures { OnOk result (after.new.items ≡ after.old.items ++ spec.steps_at plan.now w.now.script a.now statement) }
 {
     let Some(s) = statement else {
-        return Ok(Vec::new(alloc));
+        return Ok(());
     };
     match s.act {
         Act::Let { variable, value } => {
-            let known = known_of(plan, a, value);
-            one(alloc, go(assign(a.copy(alloc)?, variable, known), s.next))
+            add_assigned(after, alloc, a, s.next, variable, known_of(plan, a, value))
         }
         Act::Call {
             kind,
@@ -302,25 +325,19 @@ pub fn steps_at(
         } => {
             let x = node_of(plan, x);
             let rule = rule_of_call(plan, w, a, kind, x, node_of(plan, y));
-            after_call(alloc, plan, w, a, s.next, kind, into, x, rule)
+            let to = Onward { next: s.next, into };
+            add_after_call(after, alloc, plan, w, a, to, kind, x, rule)
         }
-        Act::Get { variable, .. } => one(
-            alloc,
-            go(assign(a.copy(alloc)?, variable, Known::Unknown), s.next),
-        ),
+        Act::Get { variable, .. } => {
+            add_assigned(after, alloc, a, s.next, variable, Known::Unknown)
+        }
         Act::If { test, otherwise } => {
-            branches(alloc, a, s.next, otherwise, decided(plan, a, test))
+            add_branches(after, alloc, a, s.next, otherwise, decided(plan, a, test))
         }
-        Act::Repeat { past, .. } => two(
-            alloc,
-            go(a.copy(alloc)?, s.next),
-            go(a.copy(alloc)?, past),
-        ),
-        Act::Again { body, .. } => two(alloc, go(a.copy(alloc)?, body), go(a.copy(alloc)?, s.next)),
-        Act::Return { .. } => Ok(Vec::new(alloc)),
-        Act::Put { .. } | Act::Spend { .. } | Act::Log { .. } => {
-            one(alloc, go(a.copy(alloc)?, s.next))
-        }
+        Act::Repeat { past, .. } => add_both(after, alloc, a, s.next, past),
+        Act::Again { body, .. } => add_both(after, alloc, a, body, s.next),
+        Act::Return { .. } => Ok(()),
+        Act::Put { .. } | Act::Spend { .. } | Act::Log { .. } => add_at(after, alloc, a, s.next),
     }
 }
 
@@ -336,11 +353,17 @@ pub fn statement_of(plan: &Plan, w: &Walked, a: &Abstract) -> Option<Statement>
     }
 }
 
-/// The states after a state.
-pub fn steps(alloc: Global, plan: &Plan, w: &Walked, a: &Abstract) -> Result<Vec<Abstract>, Memory>
+/// Adds the states after a state.
+pub fn add_steps(
+    after: &mut Vec<Abstract>,
+    alloc: Global,
+    plan: &Plan,
+    w: &Walked,
+    a: &Abstract,
+) -> Result<(), Memory>
     requires of { IsOf plan.now w.now }
     requires script { w.now.script < length plan.now.scripts }
-    ensures { IfOk result (λ v. v.items ≡ spec.steps plan.now w.now.script a.now) }
+    ensures { OnOk result (after.new.items ≡ after.old.items ++ spec.steps plan.now w.now.script a.now) }
 {
-    steps_at(alloc, plan, w, a, statement_of(plan, w, a))
+    add_steps_at(after, alloc, plan, w, a, statement_of(plan, w, a))
 }

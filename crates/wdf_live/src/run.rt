@@ -51,6 +51,7 @@ pub fn watch<R: Threads + Wait + Sync, A: Agent + Send, K: Sink + Send, G: Gate 
     ensures not_again { IfOk result (λ r. IsTrue r.1.failed → EndsRefused K.refused K.faults sink.old sink.new) }
     ensures unused { OnErr result (sink.new ≡ sink.old) }
 {
+    let core = Box::new(alloc, core)?;
     let (pipe, sender, printer) = lay(alloc, plan.limit())?;
     let bell = Parker::new();
     let desk = Desk {
@@ -86,8 +87,8 @@ fn side_by_side<'a, R: Threads + Wait + Sync, A: Agent + Send, K: Sink + Send, G
     requires pipe { (opening turn).desk.now.pipe.now ≡ desk.now.pipe.now }
     requires own { IsPassOf desk.now.pipe.now printer }
     requires new { view printer ≡ account false true [] [] }
-    ensures plan { result.0.core.plan ≡ (opening turn.entry).state.core.plan }
-    ensures printed { HasPrinted plan.now result.0.core.journal (sinking (K.written sink.old) (K.written sink.new) (K.faults sink.old) (K.faults sink.new)) result.1 }
+    ensures plan { result.0.core.value.plan ≡ (opening turn.entry).state.core.value.plan }
+    ensures printed { HasPrinted plan.now result.0.core.value.journal (sinking (K.written sink.old) (K.written sink.new) (K.faults sink.old) (K.faults sink.new)) result.1 }
     ensures not_again { IsTrue result.1.failed → EndsRefused K.refused K.faults sink.old sink.new }
 {
     let (watched, printed) = print_beside(

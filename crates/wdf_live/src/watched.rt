@@ -26,17 +26,17 @@ pub struct Watched<'a, R: Wait, A: Agent> {
     /// Whether the end mark was sent. Then no event comes any more.
     pub ended: bool,
     ghost own: { IsPassOf desk.now.pipe.now pass },
-    ghost room: { state.core.plan.limit < ruled_capacity desk.now.pipe.now },
-    ghost sent: { HasSent pass state.core.journal ended },
+    ghost room: { state.core.value.plan.limit < ruled_capacity desk.now.pipe.now },
+    ghost sent: { HasSent pass state.core.value.journal ended },
 }
 
 impl<'a, R: Wait, A: Agent> Chronicle for Watched<'a, R, A> {
     // The plan, and the pipe.
     type Root = (Plan, Pipe);
 
-    ghost root = { λ watched. (watched.state.core.plan, watched.desk.now.pipe.now) };
+    ghost root = { λ watched. (watched.state.core.value.plan, watched.desk.now.pipe.now) };
 
-    ghost events = { λ watched. watched.state.core.journal };
+    ghost events = { λ watched. watched.state.core.value.journal };
 
     fn length(&self) -> u64 {
         self.state.length()

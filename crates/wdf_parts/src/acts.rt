@@ -7,22 +7,25 @@ ghost use Rattle.wdf_model.specs.parts.Targets as targets;
 ghost use Rattle.wdf_model.specs.parts.Targets.{sending_of, takes_more};
 ghost use Rattle.wdf_model.specs.rules.Deeds as deeds;
 ghost use Rattle.wdf_model.specs.Tables.{change_at, entry};
+ghost use Rattle.wdf_model.specs.parts.Cpus.{frame_of};
+ghost use Rattle.wdf_cpu.specs.Going.{gone};
 ghost use Rattle.wdf_model.specs.rules.Room.{AreDoable, IsDoable, MayGiveUp};
 
 use crate::list::Deeds;
 use crate::parts::Parts;
-use wdf_base::{Agent, ObjectId, Place, Status};
+use wdf_base::{Agent, Frame, FrameId, ObjectId, Place, Status};
+use wdf_cpu::Going;
 use wdf_maps::{entry_at, put_at};
 use wdf_model::Deed;
 use wdf_plan_index::IndexedPlan;
 
 impl<A: Agent> Parts<A> {
     /// Does a deed that can be done.
-    pub fn do_deed(&mut self, plan: &IndexedPlan, deed: Deed)
-        requires { IsDoable plan.now deed self.old }
-        ensures { self.new ≡ deeds.do_deed plan.now deed self.old }
+    pub fn do_deed(&mut self, plan: &IndexedPlan, deed: &Deed)
+        requires { IsDoable plan.now deed.now self.old }
+        ensures { self.new ≡ deeds.do_deed plan.now deed.now self.old }
     {
-        match deed {
+        match *deed {
             Deed::Create {
                 kind,
                 class,
@@ -60,9 +63,7 @@ impl<A: Agent> Parts<A> {
             Deed::GoOn { number, frame } => self.cpus.change(number, frame),
             Deed::Raise { frame, level } => self.cpus.raise(frame, level),
             Deed::Lower { frame, level } => self.cpus.lower(frame, level),
-            Deed::PopFrame { cpu } => {
-                let _frame = self.cpus.pop(cpu);
-            }
+            Deed::PopFrame { cpu } => self.cpus.pop(cpu),
             Deed::ParkFrame { cpu } => self.cpus.park(cpu),
             Deed::UnparkFrame { cpu, frame } => self.cpus.unpark(cpu, frame),
             Deed::TakeLock {
@@ -146,6 +147,24 @@ impl<A: Agent> Parts<A> {
         }
     }
 
+    /// A frame goes on in its place.
+    pub fn go_on(&mut self, plan: &IndexedPlan, number: FrameId, going: &Going)
+        requires { number.0 < length self.old.cpus.frames }
+        ensures { self.new ≡ deeds.do_deed plan.now (Deed.GoOn number (gone going.now (frame_of self.old.cpus number.0))) self.old }
+    {
+        let _ = plan;
+        self.cpus.go_on(number, going);
+    }
+
+    /// A frame is now this one.
+    pub fn change_frame(&mut self, plan: &IndexedPlan, number: FrameId, frame: Frame)
+        requires { number.0 < length self.old.cpus.frames }
+        ensures { self.new ≡ deeds.do_deed plan.now (Deed.GoOn number frame) self.old }
+    {
+        let _ = plan;
+        self.cpus.change(number, frame);
+    }
+
     /// An agent's arrival is counted.
     fn count_arrival(&mut self, agent: u16)
         requires fits { entry 0 self.old.arrivals agent + 1 < 2 ^ 32 }
@@ -195,15 +214,15 @@ impl<A: Agent> Parts<A> {
         requires { AreDoable plan.now all.now self.old }
         ensures { self.new ≡ deeds.do_deeds plan.now all.now self.old }
     {
-        self.do_if_any(plan, all.first);
-        self.do_if_any(plan, all.second);
-        self.do_if_any(plan, all.third);
+        self.do_if_any(plan, &all.first);
+        self.do_if_any(plan, &all.second);
+        self.do_if_any(plan, &all.third);
     }
 
     /// Does a deed, if there is one.
-    fn do_if_any(&mut self, plan: &IndexedPlan, deed: Option<Deed>)
-        requires { AreDoable plan.now (option_to_list deed) self.old }
-        ensures { self.new ≡ deeds.do_deeds plan.now (option_to_list deed) self.old }
+    fn do_if_any(&mut self, plan: &IndexedPlan, deed: &Option<Deed>)
+        requires { AreDoable plan.now (option_to_list deed.now) self.old }
+        ensures { self.new ≡ deeds.do_deeds plan.now (option_to_list deed.now) self.old }
     {
         if let Some(deed) = deed {
             self.do_deed(plan, deed);

@@ -1,5 +1,5 @@
 -- Counts that are kept: those of the groups up to one are right, and one more.
-use Rattle.std.proofs.Common.{Bool, true, false, ◌≡◌, ℕ, ◌+◌, ◌<◌, ◌≤◌, ◌==◌, ◌^◌, ◌⊎◌, inl, inr, List, length, length-set, get_or, get_or-set_same, get_or-set_other, slice_set, slice_get, Some, refl, sym, ap, ◌∙◌, subst, arith}
+use Rattle.std.proofs.Common.{Bool, true, false, ◌≡◌, ℕ, ◌+◌, ◌-◌, ◌<◌, ◌≤◌, ◌==◌, ◌^◌, ◌⊎◌, inl, inr, List, length, length-set, get_or, get_or-set_same, get_or-set_other, slice_set, slice_get, Some, refl, ap, ◌∙◌, subst, arith}
 use Rattle.std.proofs.lemmas.Bool.{eqb-false, eqb-true}
 use Rattle.std.proofs.lemmas.List.{get_or_default}
 use Rattle.std.proofs.lemmas.Option.{slice_get_within}
@@ -7,16 +7,11 @@ use Rattle.wdf_base.specs.Meaning.{Meaning}
 use Rattle.wdf_base.specs.declared.plan.Plan.{Plan}
 use Rattle.wdf_model.specs.declared.enums.Group.{Group}
 use Rattle.wdf_model.specs.State.{State}
-use Rattle.wdf_ready.specs.Counts.{Counts, IsKept, is_stale}
+use Rattle.wdf_ready.specs.Counts.{IsCountedTo, IsKept, is_stale}
 use Rattle.wdf_ready.specs.Search.{offered_len}
 use Rattle.wdf_ready.specs.declared.stale.Stale.{Stale}
 use Rattle.wdf_ready.specs.declared.stale.Stale.TheVariants as stale
-
--- the counts of the groups up to a place are right, and so are those of the others that are known
-pub record IsCountedTo {A : Type 0} (plan : Plan) (m : Meaning A) (S : State A) (all : List Group) (s : Stale) (each : List ℕ) (at : ℕ) : Type 0 where
-  pub filled : length each ≡ length all
-  pub small : (i : ℕ) → get_or each i 0 ≤ 2 ^ 32
-  pub right : (i : ℕ) (g : Group) → slice_get all i ≡ Some g → (i < at) ⊎ (is_stale s g ≡ false) → get_or each i 0 ≡ offered_len plan m S g
+use Rattle.wdf_ready.proofs.Passing.{index_there}
 
 -- what is written at a place
 read_written : (each : List ℕ) (at i n : ℕ) (b : Bool) → (i == at) ≡ b → at < length each → get_or each i 0 ≤ 2 ^ 32 → n ≤ 2 ^ 32 → get_or (slice_set each at n) i 0 ≤ 2 ^ 32
@@ -45,6 +40,29 @@ module _ {A : Type 0} (plan : Plan) (m : Meaning A) (S : State A) (all : List Gr
       let filled = k.filled in
       let inside : at < length each = omega arith in
       read ∙ get_or_default each at n 0 inside ∙ k.right at g is (inr known)
+
+  -- the group at a place, as it is read
+  read_group : (at : ℕ) (d g : Group) → slice_get all at ≡ Some g → get_or all at d ≡ g
+  read_group at d g is =
+      let within = slice_get_within all at g is in
+      let there : slice_get all at ≡ Some (get_or all at d) = index_there all at d within in
+      cc
+
+  module _ (at : ℕ) (d g : Group) (is : slice_get all at ≡ Some g) (k : IsCountedTo plan m S all s each at) where
+    -- a count that is known
+    pub known_at : is_stale s (get_or all at d) ≡ false → get_or each at 0 ≡ offered_len plan m S g
+    known_at known = k.right at g is (inr (subst (λ h. is_stale s h ≡ false) (read_group at d g is) known))
+
+    -- that of a group before, which offers as many
+    pub alike_at : (step : ℕ) (before : Group) → 0 < step → step ≤ at → offered_len plan m S (get_or all (at - step) before) ≡ offered_len plan m S (get_or all at d) → get_or each (at - step) 0 ≡ offered_len plan m S g
+    alike_at step before some low alike =
+        let within = slice_get_within all at g is in
+        k.right (at - step) (get_or all (at - step) before) (index_there all (at - step) before (omega arith)) (inl (omega arith))
+        ∙ alike ∙ ap (offered_len plan m S) (read_group at d g is)
+
+    -- one made anew
+    pub anew_at : (n : ℕ) → n ≡ offered_len plan m S (get_or all at d) → n ≡ offered_len plan m S g
+    anew_at n counted = counted ∙ ap (offered_len plan m S) (read_group at d g is)
 
   module _ (at n : ℕ) (g : Group) (is : slice_get all at ≡ Some g) (counts : n ≡ offered_len plan m S g) (low : n ≤ 2 ^ 32) (k : IsCountedTo plan m S all s each at) where
     inside : at < length each

@@ -1,5 +1,5 @@
 -- The groups that can have places: one more of the loop, how many there are, and that the others offer nothing.
-use Rattle.std.proofs.Common.{◌≡◌, ℕ, ◌+◌, ◌<◌, ◌≤◌, Bool, true, false, List, [], ◌∷◌, ◌++◌, filter, get_or, length, take, refl, sym, ap, ◌∙◌, arith}
+use Rattle.std.proofs.Common.{◌≡◌, ℕ, ◌+◌, ◌<◌, ◌≤◌, Bool, true, false, List, [], ◌∷◌, ◌++◌, None, filter, get_or, length, take, refl, sym, ap, ◌∙◌, arith}
 use Rattle.std.proofs.lemmas.List.{take_more}
 use Rattle.std.proofs.lemmas.List.Elements.{filter-append}
 use Rattle.wdf_base.specs.Meaning.{Meaning}
@@ -10,10 +10,10 @@ use Rattle.wdf_model.specs.declared.enums.Group.{Group}
 use Rattle.wdf_model.specs.declared.enums.Group.TheVariants as group
 use Rattle.wdf_model.specs.State.{State}
 use Rattle.wdf_model.specs.Plans.{declares}
-use Rattle.wdf_model.specs.parts.Tree.{next_id}
 use Rattle.wdf_model.specs.rules.Groups.{callback_for, places_if, places_in}
-use Rattle.wdf_ready.specs.Search.{can_start, can_start_for, events_of, has_places, offered_from}
-use Rattle.wdf_ready.proofs.Places.{past}
+use Rattle.wdf_ready.specs.Search.{can_start_for, events_of, has_places, offered, offered_from}
+use Rattle.wdf_ready.proofs.Places.{all_passed, past}
+use Rattle.wdf_ready.proofs.Undeclared.{never_completes, never_starts}
 
 -- ---- the loop
 
@@ -50,22 +50,19 @@ no_place true n e = absurd (let z : ⊥ = cc in z)
 no_place false n e = refl
 
 module _ {A : Type 0} (plan : Plan) (m : Meaning A) (S : State A) where
-  no_start_places : (cpu : ℕ) (r : Rank) → can_start plan r ≡ false → places_in plan S (group.Starts cpu r) ≡ 0
-  no_start_places cpu rank.Cleanup e = no_place (can_start plan rank.Cleanup) (next_id S.tree) e
-  no_start_places cpu rank.Destroy e = no_place (can_start plan rank.Destroy) (next_id S.tree) e
-  no_start_places cpu _ e = absurd (let z : ⊥ = cc in z)
+  by_places : (g : Group) → ((p : ℕ) → offered plan m S g p ≡ None) → offered_from plan m S g 0 ≡ []
+  by_places g none =
+      let all : 0 + places_in plan S g ≡ places_in plan S g = omega arith in
+      all_passed plan m S g 0 (places_in plan S g) (omega arith) (λ p over under. none p) ∙ ap (offered_from plan m S g) all ∙ past plan m S g (places_in plan S g) (omega arith)
 
-  no_places_for : (cpu : ℕ) (r : Rank) (o : ℕ) → can_start_for plan r o ≡ false → places_in plan S (group.StartsFor cpu r o) ≡ 0
-  no_places_for cpu rank.Completion o e = absurd (let z : ⊥ = cc in z)
-  no_places_for cpu r o e = no_place (declares plan (callback_for r) o) (length S.requests.all) e
-
-  no_places : (g : Group) → has_places plan g ≡ false → places_in plan S g ≡ 0
-  no_places (group.StartsFor cpu r o) e = no_places_for cpu r o e
-  no_places (group.Starts cpu r) e = no_start_places cpu r e
-  no_places _ e = absurd (let z : ⊥ = cc in z)
+  none_for : (cpu : ℕ) (r : Rank) (o : ℕ) → can_start_for plan r o ≡ false → offered_from plan m S (group.StartsFor cpu r o) 0 ≡ []
+  none_for cpu rank.Completion o e = by_places (group.StartsFor cpu rank.Completion o) (λ p. never_completes plan m S cpu o p e)
+  none_for cpu r o e = let none = no_place (declares plan (callback_for r) o) (length S.requests.all) e in past plan m S (group.StartsFor cpu r o) 0 (omega arith)
 
   offers_none : (g : Group) → has_places plan g ≡ false → offered_from plan m S g 0 ≡ []
-  offers_none g e = let none = no_places g e in past plan m S g 0 (omega arith)
+  offers_none (group.StartsFor cpu r o) e = none_for cpu r o e
+  offers_none (group.Starts cpu r) e = by_places (group.Starts cpu r) (λ p. never_starts plan m S cpu r p e)
+  offers_none _ e = absurd (let z : ⊥ = cc in z)
 
   kept_by : (g : Group) (gs : List Group) (b : Bool) → has_places plan g ≡ b → events_of plan m S (filter (has_places plan) gs) ≡ events_of plan m S gs
       → events_of plan m S (filter (has_places plan) (g ∷ gs)) ≡ events_of plan m S (g ∷ gs)

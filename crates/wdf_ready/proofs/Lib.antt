@@ -1,4 +1,5 @@
 pub mod Grouping
+pub mod EmptyCpus
 pub mod Places
 pub mod NotOffered
 pub mod Skips
@@ -8,6 +9,7 @@ pub mod Kept
 pub mod Cancels
 pub mod Own
 pub mod Straight
+mod Undeclared
 pub mod Begins
 pub mod Counting
 pub mod Decided

@@ -109,14 +109,14 @@ handler_ranked_by plan q f c false true h = let same : callback.EvtIoDefault ≡
 handler_ranked_by plan q f c false false h = absurd (let z : ⊥ = cc in z)
 
 -- a handler has the rank of handlers
-handler_ranked : (plan : Plan) (q : ℕ) (f : RequestForm) (c : Callback) → handler_for plan q f ≡ Some c → (row_of c).rank ≡ rank.Handler
+pub handler_ranked : (plan : Plan) (q : ℕ) (f : RequestForm) (c : Callback) → handler_for plan q f ≡ Some c → (row_of c).rank ≡ rank.Handler
 handler_ranked plan q f c h = handler_ranked_by plan q f c (declares plan (typed_handler f) q) (declares plan callback.EvtIoDefault q) h
 
 dpc_low : (plan : Plan) (k : Kind) (o : ℕ) → callback_irql plan (dpc_function k) o ≤ 2
 dpc_low plan kind.Interrupt o = omega arith
 dpc_low plan _ o = omega arith
 
-empty_is_low : (C : Cpus) (fs : List ℕ) → (length fs == 0) ≡ true → level_of_top C (first_of_list fs) ≡ 0
+pub empty_is_low : (C : Cpus) (fs : List ℕ) → (length fs == 0) ≡ true → level_of_top C (first_of_list fs) ≡ 0
 empty_is_low C [] h = refl
 empty_is_low C (f ∷ fs) h = let none = eqb-true (length (f ∷ fs)) 0 h in absurd (omega arith)
 
@@ -164,16 +164,16 @@ module _ {A : Type 0} (plan : Plan) (m : Meaning A) (S : State A) where
   not_allowed : (e : Event) → may plan m S e ≡ false → if_allowed plan m S (Some e) ≡ None
   not_allowed e h = not_allowed_by e (may plan m S e) h
 
-  not_mapped : {T : Type 0} (f : T → Event) (o : Option T) → ((x : T) → o ≡ Some x → if_allowed plan m S (Some (f x)) ≡ None) → if_allowed plan m S (option_map f o) ≡ None
+  pub not_mapped : {T : Type 0} (f : T → Event) (o : Option T) → ((x : T) → o ≡ Some x → if_allowed plan m S (Some (f x)) ≡ None) → if_allowed plan m S (option_map f o) ≡ None
   not_mapped f None h = refl
   not_mapped f (Some x) h = h x refl
 
-  not_there : (b : Bool) (e : Event) → if_allowed plan m S (Some e) ≡ None → if_allowed plan m S (if_there b e) ≡ None
+  pub not_there : (b : Bool) (e : Event) → if_allowed plan m S (Some e) ≡ None → if_allowed plan m S (if_there b e) ≡ None
   not_there true e h = h
   not_there false e h = refl
 
   module _ (cpu : ℕ) (c : Callback) (o : ℕ) (r : Option Handle) where
-    not_started : may_start plan m S cpu c o r ≡ false → if_allowed plan m S (Some (event.Start (cpu_of cpu) c (handle_in plan S o) r)) ≡ None
+    pub not_started : may_start plan m S cpu c o r ≡ false → if_allowed plan m S (Some (event.Start (cpu_of cpu) c (handle_in plan S o) r)) ≡ None
     not_started h =
         not_allowed (event.Start (cpu_of cpu) c (handle_in plan S o) r)
         (right_fails (is_cpu plan (cpu_of cpu) && is_proper plan S (handle_in plan S o) && is_proper_if_any plan S r) (may_start plan m S cpu c o r) h)
@@ -196,7 +196,7 @@ module _ {A : Type 0} (plan : Plan) (m : Meaning A) (S : State A) where
         (right_fails (declares_in plan S c o) (life_fits S c o) h))))
 
     -- nor one that isn't due
-    not_ready : is_ready_for plan m S cpu c o r ≡ false → if_allowed plan m S (Some (event.Start (cpu_of cpu) c (handle_in plan S o) r)) ≡ None
+    pub not_ready : is_ready_for plan m S cpu c o r ≡ false → if_allowed plan m S (Some (event.Start (cpu_of cpu) c (handle_in plan S o) r)) ≡ None
     not_ready h =
         not_started
         (right_fails (declares_in plan S c o && life_fits S c o && level_fits S cpu (callback_irql plan c o) && is_free_if_any S.locks (lock_of_callback plan c o (declared_in plan S o))) (is_ready_for plan m S cpu c o r) h)

@@ -187,3 +187,19 @@ module _ {T : Type 0} (test : T → Bool) (all some rest : List T) (count : ℕ)
       let below = within some place h.item h.at in
       first_at test all (count + place) h.item (none_further place (omega arith) h.before)
       (at_rest all (some ++ rest) count place (count + place) passed refl ∙ at_start some rest place below ∙ h.at) h.passes
+
+-- ---- whether any group offers
+
+-- where one of the groups offers something, something may come
+pub some_events : {A : Type 0} (plan : Plan) (m : Meaning A) (S : State A) (groups : List Group) (i : ℕ) (g : Group) → slice_get groups i ≡ Some g → 0 < length (offered_from plan m S g 0)
+    → 0 < length (events_of plan m S groups)
+some_events plan m S [] i g at some = absurd (let z : ⊥ = cc in z)
+some_events plan m S (h ∷ groups) zero g at some =
+    let same : h ≡ g = cc in
+    let here : 0 < length (offered_from plan m S h 0) = subst (λ x. 0 < length (offered_from plan m S x 0)) (sym same) some in
+    let sum = length-append (offered_from plan m S h 0) (events_of plan m S groups) in
+    omega arith
+some_events plan m S (h ∷ groups) (suc i) g at some =
+    let rest = some_events plan m S groups i g at some in
+    let sum = length-append (offered_from plan m S h 0) (events_of plan m S groups) in
+    omega arith

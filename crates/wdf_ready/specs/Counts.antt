@@ -1,5 +1,5 @@
 -- Counts that are kept from event to event: of which groups they may have changed, and what holds of the others. (own)
-use Rattle.std.specs.Prelude.{ℕ, ◌≡◌, ◌≤◌, ◌^◌, Bool, true, false, ◌==◌, ◌||◌, List, length, slice_get, get_or, Some}
+use Rattle.std.specs.Prelude.{ℕ, ◌≡◌, ◌<◌, ◌≤◌, ◌^◌, ◌⊎◌, Bool, true, false, ◌==◌, ◌||◌, List, length, slice_get, get_or, Some}
 use Rattle.wdf_base.specs.Meaning.{Meaning}
 use Rattle.wdf_base.specs.declared.event.Event.{Event}
 use Rattle.wdf_base.specs.declared.event.Event.TheVariants as event
@@ -67,6 +67,12 @@ pub record IsKept {A : Type 0} (plan : Plan) (m : Meaning A) (S : State A) (all 
   pub filled : length c.each ≡ length all
   pub small : (i : ℕ) → get_or c.each i 0 ≤ 2 ^ 32
   pub known : (i : ℕ) (g : Group) → slice_get all i ≡ Some g → is_stale c.stale g ≡ false → get_or c.each i 0 ≡ offered_len plan m S g
+
+-- the counts of the groups up to a place are right, and so are those of the others that are known
+pub record IsCountedTo {A : Type 0} (plan : Plan) (m : Meaning A) (S : State A) (all : List Group) (s : Stale) (each : List ℕ) (at : ℕ) : Type 0 where
+  pub filled : length each ≡ length all
+  pub small : (i : ℕ) → get_or each i 0 ≤ 2 ^ 32
+  pub right : (i : ℕ) (g : Group) → slice_get all i ≡ Some g → (i < at) ⊎ (is_stale s g ≡ false) → get_or each i 0 ≡ offered_len plan m S g
 
 -- counts for so many groups, of which nothing is known
 pub record Unknown (groups : ℕ) (c : Counts) : Type 0 where

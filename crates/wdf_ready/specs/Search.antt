@@ -1,10 +1,11 @@
 -- The events that may follow, as a search finds them: by groups and places, each with its test.
-use Rattle.std.specs.Prelude.{if◌then◌else◌, ◌≡◌, ℕ, ◌-◌, ◌<◌, ◌≤◌, ◌^◌, Bool, true, false, List, length, slice_get, Option, Some, None}
+use Rattle.std.specs.Prelude.{if◌then◌else◌, ◌≡◌, ℕ, ◌-◌, ◌<◌, ◌≤◌, ◌^◌, Bool, true, false, not, ◌==◌, List, length, slice_get, Option, Some, None}
 use Rattle.std.specs.Option.{option_and_then}
-use Rattle.std.specs.List.{filter_map, flat_map, range_with_len}
+use Rattle.std.specs.List.{filter_map, flat_map, list_any, range_with_len}
+use Rattle.wdf_base.specs.Callbacks.{carries_request, rank_number, row_of}
 use Rattle.wdf_base.specs.Meaning.{Meaning}
 use Rattle.wdf_base.specs.declared.event.Event.{Event}
-use Rattle.wdf_base.specs.declared.call.Callback.TheVariants as callback
+use Rattle.wdf_base.specs.declared.call.Callback.{Callback}
 use Rattle.wdf_base.specs.declared.plan.Plan.{Plan}
 use Rattle.wdf_base.specs.declared.rank.Rank.{Rank}
 use Rattle.wdf_base.specs.declared.rank.Rank.TheVariants as rank
@@ -13,7 +14,7 @@ use Rattle.wdf_model.specs.declared.enums.Group.TheVariants as group
 use Rattle.wdf_model.specs.Plans.{declares}
 use Rattle.wdf_model.specs.State.{State}
 use Rattle.wdf_model.specs.rules.Steps.{may}
-use Rattle.wdf_model.specs.rules.Groups.{callback_for, candidate, is_declared_somewhere, places_in}
+use Rattle.wdf_model.specs.rules.Groups.{callback_for, candidate, places_in}
 
 -- a candidate, if it may come
 abbrev pub if_allowed : {A : Type 0} → Plan → Meaning A → State A → Option Event → Option Event
@@ -44,18 +45,22 @@ events_of plan m S all = flat_map (λ g. offered_from plan m S g 0) all
 
 -- ---- groups with places
 
--- something declares a rank's callback, where the rank is that of the cleanup or the destroy callbacks
-abbrev pub can_start : Plan → Rank → Bool
-can_start plan rank.Cleanup = is_declared_somewhere plan callback.EvtCleanupCallback
-can_start plan rank.Destroy = is_declared_somewhere plan callback.EvtDestroyCallback
-can_start plan _ = true
+-- a callback may start by the group of a rank: it is of that rank; a step of a sequence is any that is for no request
+abbrev pub starts_by : Rank → Callback → Bool
+starts_by rank.Sequence c = not (carries_request (row_of c).rank)
+starts_by r c = rank_number (row_of c).rank == rank_number r
 
--- an object declares a rank's callback for requests; the group of completion routines is kept for each target
+-- something declares a callback that may start by the group of a rank
+abbrev pub can_start : Plan → Rank → Bool
+can_start plan r = list_any (λ s. starts_by r s.callback) plan.scripts
+
+-- an object declares a rank's callback for requests; the group of completion routines is kept for each target, if anything
+-- declares one
 abbrev pub can_start_for : Plan → Rank → ℕ → Bool
-can_start_for plan rank.Completion o = true
+can_start_for plan rank.Completion o = can_start plan rank.Completion
 can_start_for plan r o = declares plan (callback_for r) o
 
--- a group can have places: a callback that nothing declares has none
+-- a group can have places: a callback that nothing declares doesn't start
 abbrev pub has_places : Plan → Group → Bool
 has_places plan (group.StartsFor cpu r o) = can_start_for plan r o
 has_places plan (group.Starts cpu r) = can_start plan r

@@ -1,10 +1,11 @@
 //! How many events may come of each group, kept from event to event. What may have changed is counted anew when it is asked for.
 ghost use Rattle.std.specs.Prelude.{◌≡◌, ◌+◌, ◌<◌, ◌≤◌, ◌^◌, false, IfOk, length, slice_get, Some, MatchResult};
-ghost use Rattle.wdf_ready.specs.Counts.{IsKept, Unknown, is_stale, stale_after};
+ghost use Rattle.wdf_ready.specs.Counts.{IsCountedTo, IsKept, Unknown, is_stale, stale_after};
 ghost use Rattle.wdf_ready.specs.Leaving.{IsSettled};
 ghost use Rattle.wdf_ready.specs.Search as search;
 ghost use Rattle.wdf_ready.specs.declared.stale.Stale.TheVariants as kinds;
 
+use crate::alike::{offer_alike, step_between};
 use crate::search::{offered_at, offered_len};
 use crate::stale::Stale;
 use std::alloc::Global;
@@ -160,6 +161,35 @@ fn event_of<A: Agent>(
     offered_at(plan, parts, group, k)
 }
 
+/// How many events may come of the group at a place, where the groups before it are counted. A group that may have changed
+/// isn't searched where it offers as many as the one that is `step` places before it.
+fn count_at<A: Agent>(
+    plan: &IndexedPlan,
+    parts: &Parts<A>,
+    all: &[Group],
+    each: &[usize],
+    stale: Stale,
+    step: usize,
+    at: usize,
+) -> usize
+    requires agents { length parts.now.agents ≤ 2 ^ 16 }
+    requires settled { IsSettled plan.now parts.now }
+    requires within { at < length all.now }
+    requires step { 0 < step }
+    requires counted { IsCountedTo plan.now A.meaning parts.now all.now stale each.now at }
+    ensures length { (g : Group) → slice_get all.now at ≡ Some g → result ≡ search.offered_len plan.now A.meaning parts.now g }
+    ensures small { result ≤ 2 ^ 32 }
+{
+    let group = all[at];
+    if !stale.has(group) {
+        return each[at];
+    }
+    if at >= step && offer_alike(plan, parts, all[at - step], group) {
+        return each[at - step];
+    }
+    offered_len(plan, parts, group)
+}
+
 /// How many events may come of all these groups, and in `each` of each. `stale` are those that are counted anew.
 fn count_each<A: Agent>(
     plan: &IndexedPlan,
@@ -177,8 +207,9 @@ fn count_each<A: Agent>(
     ensures each { IsKept plan.now A.meaning parts.now all.now (record { each = each.new.items; stale = kinds.Nothing }) }
 {
     let mut sum = 0;
+    let step = step_between(plan, all.len());
     for at in 0..all.len() {
-        let count = len_of(plan, parts, all[at], stale, each[at]);
+        let count = count_at(plan, parts, all, each.as_slice(), stale, step, at);
         each[at] = count;
         sum += count;
     }

@@ -1,5 +1,5 @@
 //! Cleanups, ends, own events and completions, tested by the parts that decide and not by `may`.
-ghost use Rattle.std.specs.Prelude.{◌≡◌, ◌+◌, ◌≤◌, ◌^◌, ◌&&◌, Some, is_some, length, not, slice_get, MatchResult};
+ghost use Rattle.std.specs.Prelude.{◌≡◌, ◌+◌, ◌<◌, ◌≤◌, ◌^◌, ◌&&◌, IsTrue, Some, is_some, length, not, slice_get, MatchResult};
 ghost use Rattle.wdf_base.specs.declared.event.Event.TheVariants as event;
 ghost use Rattle.wdf_model.specs.State as state;
 ghost use Rattle.wdf_model.specs.declared.enums.Group.TheVariants as group;
@@ -8,6 +8,7 @@ ghost use Rattle.wdf_ready.specs.Search as search;
 
 use crate::candidates::completion_at;
 use wdf_base::{Agent, Callback, Cpu, Event, Frame, ObjectId};
+use wdf_model::Group;
 use wdf_parts::Parts;
 use wdf_plan_index::IndexedPlan;
 use wdf_posts::{due_of, post_answer, post_fits};
@@ -113,6 +114,29 @@ pub(crate) fn own_len<A: Agent>(plan: &IndexedPlan, parts: &Parts<A>, cpu: Cpu) 
     } else {
         0
     }
+}
+
+/// Whether a group is that of the own event of a frame, and has it.
+fn has_own<A: Agent>(plan: &IndexedPlan, parts: &Parts<A>, group: Group) -> bool
+    ensures { IsTrue result → 0 < length (search.offered_from plan.now A.meaning parts.now group 0) }
+{
+    match group {
+        Group::OwnEvent { cpu } => own_len(plan, parts, Cpu(cpu)) > 0,
+        _ => false,
+    }
+}
+
+/// Whether the top frame of a processor has an event of its own, where the processor's group is among these. Nothing but the top
+/// frames is looked at.
+pub fn any_own<A: Agent>(plan: &IndexedPlan, parts: &Parts<A>, all: &[Group]) -> bool
+    ensures { IsTrue result → 0 < length (search.events_of plan.now A.meaning parts.now all.now) }
+{
+    for group in all {
+        if has_own(plan, parts, *group) {
+            return true;
+        }
+    }
+    false
 }
 
 /// How many completions may come.

@@ -5,7 +5,7 @@ ghost use Rattle.wdf_model.specs.rules.Groups as groups;
 ghost use Rattle.wdf_model.specs.Plans as plans;
 ghost use Rattle.wdf_ready.specs.Search as search;
 
-use crate::candidates::{callback_for, is_declared_somewhere};
+use crate::candidates::callback_for;
 use std::alloc::Global;
 use wdf_base::{Callback, Memory, ObjectId, Rank};
 use wdf_model::Group;
@@ -37,7 +37,7 @@ pub fn groups_of(alloc: Global, plan: &IndexedPlan) -> Result<Vec<Group>, Memory
     with_places(alloc, plan, &all)
 }
 
-/// Whether a group can have places: a callback that nothing declares has none.
+/// Whether a group can have places: a callback that nothing declares doesn't start.
 fn has_places(plan: &IndexedPlan, group: Group) -> bool
     ensures { result ≡ search.has_places plan.now group }
 {
@@ -48,14 +48,25 @@ fn has_places(plan: &IndexedPlan, group: Group) -> bool
     }
 }
 
-/// Whether something declares a rank's callback, where the rank is that of the cleanup or the destroy callbacks.
+/// Whether something declares a callback that may start by the group of a rank.
 fn can_start(plan: &IndexedPlan, rank: Rank) -> bool
     ensures { result ≡ search.can_start plan.now rank }
 {
+    plan.plan()
+        .scripts
+        .as_slice()
+        .iter()
+        .any(|script| starts_by(rank, script.callback))
+}
+
+/// Whether a callback may start by the group of a rank: it is of that rank. A step of a sequence is any that is for no request.
+fn starts_by(rank: Rank, callback: Callback) -> bool
+    ensures { result ≡ search.starts_by rank callback }
+{
+    let own = callback.row().rank;
     match rank {
-        Rank::Cleanup => is_declared_somewhere(plan, Callback::EvtCleanupCallback),
-        Rank::Destroy => is_declared_somewhere(plan, Callback::EvtDestroyCallback),
-        _ => true,
+        Rank::Sequence => !own.carries_request(),
+        _ => own.number() == rank.number(),
     }
 }
 
@@ -64,7 +75,7 @@ fn can_start_for(plan: &IndexedPlan, rank: Rank, object: ObjectId) -> bool
     ensures { result ≡ search.can_start_for plan.now rank object.0 }
 {
     match rank {
-        Rank::Completion => true,
+        Rank::Completion => can_start(plan, rank),
         _ => plan.declares(callback_for(rank), object),
     }
 }

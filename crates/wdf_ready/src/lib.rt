@@ -3,6 +3,7 @@
 #![tactic(auto)]
 
 mod actor;
+mod alike;
 mod among;
 mod candidates;
 mod counts;
@@ -20,6 +21,7 @@ mod started;
 pub use actor::is_by;
 pub use among::is_allowed;
 pub use counts::KeptCounts;
+pub use direct::any_own;
 pub use endings::{is_open, waits_for_time};
 pub use groups::groups_of;
 pub use search::{allowed_at, first_by};

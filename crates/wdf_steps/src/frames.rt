@@ -1,69 +1,41 @@
 //! How a frame goes on.
-ghost use Rattle.std.specs.Prelude.{◌≡◌, ◌+◌, ◌<◌, ◌^◌, slice_set};
+ghost use Rattle.std.specs.Prelude.{◌≡◌, ◌+◌, ◌<◌, ◌^◌};
 ghost use Rattle.wdf_model.specs.rules.Steps as steps;
+ghost use Rattle.wdf_cpu.specs.Going.{gone};
 
-use wdf_base::{Act, Call, Change, Frame, Intent, Pending, Statement, VARIABLES, Value};
+use wdf_base::{Act, Call, Change, Frame, Intent, Pending, Statement, Value};
+use wdf_cpu::Going;
 use wdf_plan_index::IndexedPlan;
 use wdf_script::statement_at;
 
-/// A frame at the statement that follows.
-fn at_next(frame: Frame, statement: Option<Statement>) -> Frame
-    ensures { result ≡ steps.at_next frame statement }
+/// A frame that is at a statement, and as it was otherwise.
+fn placed(frame: &Frame, change: Change, at: u32) -> Going
+    ensures { gone result frame.now ≡ record (steps.changed frame.now change) { at = at } }
+{
+    Going {
+        change,
+        at,
+        until: frame.until,
+        pending: frame.pending,
+    }
+}
+
+/// The number of the statement that follows; at the callback's end it stays as it is.
+fn next_place(frame: &Frame, statement: Option<Statement>) -> u32
+    ensures { record frame.now { at = result } ≡ steps.at_next frame.now statement }
 {
     match statement {
-        None => frame,
-        Some(statement) => Frame {
-            at: statement.next,
-            ..frame
-        },
+        None => frame.at,
+        Some(statement) => statement.next,
     }
 }
 
 /// A frame that goes on.
-pub(crate) fn goes_on(plan: &IndexedPlan, frame: &Frame) -> Frame
-    ensures { result ≡ steps.goes_on plan.now frame.now }
+pub(crate) fn goes_on(plan: &IndexedPlan, frame: &Frame) -> Going
+    ensures { gone result frame.now ≡ steps.goes_on plan.now frame.now }
 {
-    at_next(*frame, statement_at(plan.plan(), frame))
-}
-
-/// The variables with one changed.
-fn set_variable(mut variables: [Value; VARIABLES], variable: u8, value: Value) -> [Value; VARIABLES]
-    ensures { result ≡ slice_set variables variable value }
-{
-    if usize::from(variable) < VARIABLES {
-        variables[usize::from(variable)] = value;
-    }
-    variables
-}
-
-/// The counters with one changed.
-fn set_counter(mut counters: [u32; VARIABLES], depth: u8, left: u32) -> [u32; VARIABLES]
-    ensures { result ≡ slice_set counters depth left }
-{
-    if usize::from(depth) < VARIABLES {
-        counters[usize::from(depth)] = left;
-    }
-    counters
-}
-
-/// A frame of which a variable gets a value.
-fn with_variable(frame: Frame, variable: u8, value: Value) -> Frame
-    ensures { result ≡ steps.with_variable frame variable value }
-{
-    Frame {
-        variables: set_variable(frame.variables, variable, value),
-        ..frame
-    }
-}
-
-/// A frame with the answer of its statement, where that has a variable.
-fn with_answer(frame: Frame, variable: Option<u8>, value: Value) -> Frame
-    ensures { result ≡ steps.with_answer frame variable value }
-{
-    match variable {
-        None => frame,
-        Some(variable) => with_variable(frame, variable, value),
-    }
+    let at = next_place(frame, statement_at(plan.plan(), frame));
+    placed(frame, Change::Branch, at)
 }
 
 /// The variable that gets the answer of a statement, if any.
@@ -77,64 +49,59 @@ fn result_of(statement: Option<Statement>) -> Option<u8>
     }
 }
 
-/// A frame whose statement is answered goes on.
-pub(crate) fn answered(plan: &IndexedPlan, frame: &Frame, value: Value) -> Frame
-    ensures { result ≡ steps.answered plan.now frame.now value }
+/// What the answer of a statement changes.
+fn answer_of(variable: Option<u8>, value: Value) -> Change
+    ensures { (frame : Frame) → steps.changed frame result ≡ steps.with_answer frame variable value }
 {
-    let variable = result_of(statement_at(plan.plan(), frame));
-    Frame {
-        pending: None,
-        ..with_answer(goes_on(plan, frame), variable, value)
+    match variable {
+        None => Change::Branch,
+        Some(variable) => Change::Assign { variable, value },
     }
 }
 
-/// A frame with a change.
-fn changed(frame: Frame, change: Change) -> Frame
-    ensures { result ≡ steps.changed frame change }
+/// A frame whose statement is answered goes on.
+pub(crate) fn answered(plan: &IndexedPlan, frame: &Frame, value: Value) -> Going
+    ensures { gone result frame.now ≡ steps.answered plan.now frame.now value }
 {
-    match change {
-        Change::Assign { variable, value } => with_variable(frame, variable, value),
-        Change::Branch => frame,
-        Change::Count { depth, left } => Frame {
-            counters: set_counter(frame.counters, depth, left),
-            ..frame
-        },
+    let statement = statement_at(plan.plan(), frame);
+    Going {
+        change: answer_of(result_of(statement), value),
+        at: next_place(frame, statement),
+        until: frame.until,
+        pending: None,
     }
 }
 
 /// A step inside a frame.
-pub(crate) fn stepped(frame: &Frame, intent: &Intent) -> Frame
-    ensures { result ≡ steps.stepped frame.now intent.now }
+pub(crate) fn stepped(frame: &Frame, intent: &Intent) -> Going
+    ensures { gone result frame.now ≡ steps.stepped frame.now intent.now }
 {
     match intent {
-        Intent::Local { change, next } => Frame {
-            at: *next,
-            ..changed(*frame, *change)
-        },
-        _ => *frame,
+        Intent::Local { change, next } => placed(frame, *change, *next),
+        _ => placed(frame, Change::Branch, frame.at),
     }
 }
 
 /// A frame that goes on once so many ticks have passed.
-pub(crate) fn spending(plan: &IndexedPlan, frame: &Frame, now: u64, ticks: u64) -> Frame
+pub(crate) fn spending(plan: &IndexedPlan, frame: &Frame, now: u64, ticks: u64) -> Going
     requires { now + ticks < 2 ^ 64 }
-    ensures { result ≡ record (steps.goes_on plan.now frame.now) { until = now + ticks } }
+    ensures { gone result frame.now ≡ record (steps.goes_on plan.now frame.now) { until = now + ticks } }
 {
-    Frame {
+    Going {
         until: now + ticks,
         ..goes_on(plan, frame)
     }
 }
 
 /// A frame that waits for a call.
-pub(crate) fn waiting(frame: &Frame, call: &Call, answer: Value) -> Frame
-    ensures { result ≡ steps.waiting frame.now call.now answer }
+pub(crate) fn waiting(frame: &Frame, call: &Call, answer: Value) -> Going
+    ensures { gone result frame.now ≡ steps.waiting frame.now call.now answer }
 {
-    Frame {
+    Going {
         pending: Some(Pending {
             call: *call,
             answer,
         }),
-        ..*frame
+        ..placed(frame, Change::Branch, frame.at)
     }
 }

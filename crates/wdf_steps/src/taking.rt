@@ -6,12 +6,15 @@ ghost use Rattle.wdf_model.specs.rules.Deeds.{do_deeds};
 ghost use Rattle.wdf_model.specs.rules.Room.{AreDoable};
 ghost use Rattle.wdf_model.specs.rules.Script as script;
 ghost use Rattle.wdf_model.specs.rules.Steps as steps;
+ghost use Rattle.wdf_model.specs.parts.Cpus.{frame_of};
+ghost use Rattle.wdf_cpu.specs.Going.{gone};
 ghost use Rattle.wdf_steps.specs.Clock.{FitsClock};
 ghost use Rattle.wdf_steps.specs.Moves.{goes_on_with, spends_on};
 
 use crate::frames::{answered, goes_on, spending, stepped, waiting};
 use wdf_base::{Agent, Call, Cpu, Event, Frame, FrameId, Value};
 use wdf_calls::{outcome, second_deeds};
+use wdf_cpu::Going;
 use wdf_model::Deed;
 use wdf_parts::{Deeds, Parts};
 use wdf_plan_index::IndexedPlan;
@@ -19,12 +22,20 @@ use wdf_posts::post_deeds;
 use wdf_script::next;
 use wdf_starts::{end_deeds, stage_deeds, start_deeds};
 
-/// A frame goes on.
-fn go_on<A: Agent>(plan: &IndexedPlan, parts: &mut Parts<A>, number: FrameId, frame: Frame)
+/// A frame goes on in its place.
+fn go_on<A: Agent>(plan: &IndexedPlan, parts: &mut Parts<A>, number: FrameId, going: &Going)
+    requires { AreDoable plan.now (Deed.GoOn number (gone going.now (frame_of parts.old.cpus number.0)) ∷ []) parts.old }
+    ensures { parts.new ≡ do_deeds plan.now (Deed.GoOn number (gone going.now (frame_of parts.old.cpus number.0)) ∷ []) parts.old }
+{
+    parts.go_on(plan, number, going);
+}
+
+/// A frame is now this one.
+fn set_frame<A: Agent>(plan: &IndexedPlan, parts: &mut Parts<A>, number: FrameId, frame: Frame)
     requires { AreDoable plan.now (Deed.GoOn number frame ∷ []) parts.old }
     ensures { parts.new ≡ do_deeds plan.now (Deed.GoOn number frame ∷ []) parts.old }
 {
-    parts.do_deed(plan, Deed::GoOn { number, frame });
+    parts.change_frame(plan, number, frame);
 }
 
 /// A step inside the top frame.
@@ -37,7 +48,7 @@ fn step_inside<A: Agent>(plan: &IndexedPlan, parts: &mut Parts<A>, cpu: Cpu)
     };
     let frame = parts.cpus().frame(number);
     let after = stepped(frame, &next(plan.plan(), frame));
-    go_on(plan, parts, number, after);
+    go_on(plan, parts, number, &after);
 }
 
 /// The top frame prints a value, and goes on.
@@ -49,7 +60,7 @@ fn print<A: Agent>(plan: &IndexedPlan, parts: &mut Parts<A>, cpu: Cpu)
         return;
     };
     let after = goes_on(plan, parts.cpus().frame(number));
-    go_on(plan, parts, number, after);
+    go_on(plan, parts, number, &after);
 }
 
 /// The top frame begins to spend a number of ticks.
@@ -62,7 +73,7 @@ fn spend<A: Agent>(plan: &IndexedPlan, parts: &mut Parts<A>, cpu: Cpu, ticks: u6
         return;
     };
     let after = spending(plan, parts.cpus().frame(number), parts.now(), ticks);
-    go_on(plan, parts, number, after);
+    go_on(plan, parts, number, &after);
 }
 
 /// A register is read or written by the top frame.
@@ -74,7 +85,7 @@ fn access<A: Agent>(plan: &IndexedPlan, parts: &mut Parts<A>, cpu: Cpu, value: u
         return;
     };
     let after = answered(plan, parts.cpus().frame(number), Value::Num(value));
-    go_on(plan, parts, number, after);
+    go_on(plan, parts, number, &after);
 }
 
 /// What a part of a call does is done, and the frame goes on.
@@ -90,7 +101,7 @@ fn do_part<A: Agent>(
     ensures { parts.new ≡ do_deeds plan.now (part.now ++ Deed.GoOn number frame ∷ []) parts.old }
 {
     parts.do_deeds(plan, part);
-    go_on(plan, parts, number, frame);
+    set_frame(plan, parts, number, frame);
 }
 
 /// What both parts of a call do is done, and the frame goes on.
@@ -108,7 +119,7 @@ fn do_both<A: Agent>(
 {
     parts.do_deeds(plan, first);
     parts.do_deeds(plan, second);
-    go_on(plan, parts, number, frame);
+    set_frame(plan, parts, number, frame);
 }
 
 /// A call is answered: its first part, its second, and the frame goes on.
@@ -119,7 +130,8 @@ fn answer<A: Agent>(plan: &IndexedPlan, parts: &mut Parts<A>, cpu: Cpu, call: &C
     let Some(number) = parts.cpus().top(cpu) else {
         return;
     };
-    let after = answered(plan, parts.cpus().frame(number), value);
+    let frame = parts.cpus().frame(number);
+    let after = answered(plan, frame, value).of(frame);
     let outcome = outcome(plan, parts, cpu, number, call);
     let second = second_deeds(number, call);
     do_both(plan, parts, &outcome.deeds, &second, number, after);
@@ -134,7 +146,8 @@ fn wait<A: Agent>(plan: &IndexedPlan, parts: &mut Parts<A>, cpu: Cpu, call: &Cal
         return;
     };
     let outcome = outcome(plan, parts, cpu, number, call);
-    let after = waiting(parts.cpus().frame(number), call, outcome.answer);
+    let frame = parts.cpus().frame(number);
+    let after = waiting(frame, call, outcome.answer).of(frame);
     do_part(plan, parts, &outcome.deeds, number, after);
 }
 
@@ -146,7 +159,8 @@ fn wake<A: Agent>(plan: &IndexedPlan, parts: &mut Parts<A>, cpu: Cpu, call: &Cal
     let Some(number) = parts.cpus().top(cpu) else {
         return;
     };
-    let after = answered(plan, parts.cpus().frame(number), value);
+    let frame = parts.cpus().frame(number);
+    let after = answered(plan, frame, value).of(frame);
     let second = second_deeds(number, call);
     do_part(plan, parts, &second, number, after);
 }
@@ -164,7 +178,7 @@ fn do_one<A: Agent>(plan: &IndexedPlan, parts: &mut Parts<A>, deed: Deed)
     requires { AreDoable plan.now (deed ∷ []) parts.old }
     ensures { parts.new ≡ do_deeds plan.now (deed ∷ []) parts.old }
 {
-    parts.do_deed(plan, deed);
+    parts.do_deed(plan, &deed);
 }
 
 /// Does the deeds of an event, one row for each kind.

@@ -39,6 +39,7 @@ pub fn run_threads<R: Threads + Sync, A: Agent + Send, G: Gate + Sync>(
     ensures ended { IfOk result (λ after. ending_of core.plan A.meaning after.journal ≢ ending.Running) }
 {
     let shift = shift_of(core.plan());
+    let core = Box::new(alloc, core)?;
     let state = share(rt, alloc, RunState { core }, shift, gate)?;
     Ok(finish(state))
 }
@@ -53,12 +54,12 @@ pub fn shift_of(plan: &Plan) -> Shift {
 
 /// Takes the first event that may follow, until none may.
 pub fn finish<A: Agent>(state: RunState<A>) -> Core<A>
-    ensures plan { result.plan ≡ state.core.plan }
-    ensures journal { IsPrefix state.core.journal result.journal }
-    ensures run { IsRunOf state.core.plan A.meaning result.journal }
-    ensures ended { ending_of state.core.plan A.meaning result.journal ≢ ending.Running }
+    ensures plan { result.plan ≡ state.core.value.plan }
+    ensures journal { IsPrefix state.core.value.journal result.journal }
+    ensures run { IsRunOf state.core.value.plan A.meaning result.journal }
+    ensures ended { ending_of state.core.value.plan A.meaning result.journal ≢ ending.Running }
 {
-    let RunState { mut core } = state;
+    let mut core = Box::into_inner(state.core);
     run_order(&mut core, &[]);
     let _events = core.journal_len();
     core

@@ -13,16 +13,16 @@ use wdf_turn::Chronicle;
 /// The machine of a run that workers share. Its root is the plan, and its history is the journal.
 #[derive(Drop)]
 pub struct RunState<A: Agent> {
-    /// The machine.
-    pub core: Core<A>,
+    /// The machine. It is large, and goes from worker to worker: so it is moved as a pointer.
+    pub core: Box<Core<A>>,
 }
 
 impl<A: Agent> Chronicle for RunState<A> {
     type Root = Plan;
 
-    ghost root = { λ state. state.core.plan };
+    ghost root = { λ state. state.core.value.plan };
 
-    ghost events = { λ state. state.core.journal };
+    ghost events = { λ state. state.core.value.journal };
 
     fn length(&self) -> u64 {
         self.core.journal_len() as u64
@@ -35,7 +35,7 @@ impl<A: Agent> Chronicle for RunState<A> {
 
 impl<A: Agent> Advance for RunState<A> {
     fn advance(&mut self, crew: Crew) -> Progress {
-        take_first(&mut self.core, crew)
+        take_first(&mut *self.core, crew)
     }
 
     // Nobody waits for it.

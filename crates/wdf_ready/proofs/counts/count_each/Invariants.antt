@@ -1,7 +1,7 @@
 -- The groups so far were passed, and their counts are there.
 use Rattle.std.proofs.Common.{◌*◌, ◌≤◌, ◌^◌, drop}
 use Rattle.wdf_ready.specs.Search.{events_of}
-use Rattle.wdf_ready.proofs.Counting.{IsCountedTo}
+use Rattle.wdf_ready.specs.Counts.{IsCountedTo}
 use Rattle.wdf_ready.proofs.Passing.{Passed}
 use Rattle.wdf_ready.proofs.counts.count_each.Given as goal
 

@@ -7,4 +7,4 @@ pub returns-clause-journal : goal.returns-clause-journal
 returns-clause-journal g c = (c.run_order.ensures.picked.begins.0, sym c.run_order.ensures.picked.begins.1)
 
 pub returns-clause-ended : goal.returns-clause-ended
-returns-clause-ended g c = has_ended c.args.state.core.plan g.A.Agent.meaning _ c.run_order.ensures.picked.ends
+returns-clause-ended g c = has_ended c.args.state.core.value.plan g.A.Agent.meaning _ c.run_order.ensures.picked.ends

@@ -12,13 +12,11 @@ invariant_of-self c =
     let many : length c.self.inside.stacks.items ≡ c.args.plan.now.cpus = ap (λ (C : Cpus). length C.stacks) c.self.view_is ∙ c.requires in
     let stacks : c.clear_stacks.new.stacks.items ≡ replicate c.args.plan.now.cpus [] = c.clear_stacks.ensures ∙ sym (splat_is_map c.self.inside.stacks.items c.args.plan.now.cpus none many) in
     record {
-      frames_room = rw c.clear.ensures.capacity c.self.invariant.frames_room;
       live_room = rw c.clear-4.ensures.capacity c.self.invariant.live_room;
       peaks_room = rw c.clear-5.ensures.capacity c.self.invariant.peaks_room;
       parked_room = rw c.clear-2.ensures.room c.self.invariant.parked_room;
-      blank = c.self.invariant.blank;
-      kept = rw (c.clear.ensures.items, stacks, c.clear-2.ensures.entries, c.clear-3.ensures, c.clear-4.ensures.items, c.clear-5.ensures.items, c.clear-6.ensures, c.clear-7.ensures) (kept_opening c.args.plan.now);
-      untils = rw (c.clear.ensures.items, stacks, c.clear-2.ensures.entries, c.clear-3.ensures, c.clear-8.ensures) (spending_opening c.args.plan.now);
+      kept = rw (c.clear.ensures, stacks, c.clear-2.ensures.entries, c.clear-3.ensures, c.clear-4.ensures.items, c.clear-5.ensures.items, c.clear-6.ensures, c.clear-7.ensures) (kept_opening c.args.plan.now);
+      untils = rw (c.clear.ensures, stacks, c.clear-2.ensures.entries, c.clear-3.ensures, c.clear-8.ensures) (spending_opening c.args.plan.now);
     }
 
 pub returns : goal.returns
@@ -26,4 +24,4 @@ returns c =
     let none : List ℕ = [] in
     let many : length c.self.inside.stacks.items ≡ c.args.plan.now.cpus = ap (λ (C : Cpus). length C.stacks) c.self.view_is ∙ c.requires in
     let stacks : c.clear_stacks.new.stacks.items ≡ replicate c.args.plan.now.cpus [] = c.clear_stacks.ensures ∙ sym (splat_is_map c.self.inside.stacks.items c.args.plan.now.cpus none many) in
-    rw (c.clear.ensures.items, stacks, c.clear-2.ensures.entries, c.clear-3.ensures) refl
+    rw (c.clear.ensures, stacks, c.clear-2.ensures.entries, c.clear-3.ensures) refl

@@ -11,13 +11,11 @@ invariant_of-self c =
     let a = c.self.inside in
     let h = c.self.invariant in
     let peak : c.peak.result.0 ≡ fold max (running (cpus_in a) c.args.f.0).level.0 (held_by (less_one c.args.f.0 c.args.level.0 a.levels) c.args.f.0) =
-    rw (c.lower.ensures, c.entry_at.ensures, c.deref.ensures.value) at c.peak.ensures in
+    rw (c.lower.ensures, c.running.ensures) at c.peak.ensures in
     record {
-      frames_room = h.frames_room;
       live_room = h.live_room;
       peaks_room = omega arith;
       parked_room = h.parked_room;
-      blank = h.blank;
       kept = rw (c.lower.ensures, c.put_at.ensures.entries)
           (kept_lower (cpus_in a) a.live.items a.peaks.items a.on a.waits c.args.f.0 c.args.level.0 c.peak.result.0 peak h.kept);
       untils = rw c.lower.ensures (record { counts = h.untils.counts; many = h.untils.many });

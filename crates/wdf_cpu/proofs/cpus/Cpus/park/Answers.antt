@@ -30,11 +30,9 @@ invariant_of-self c =
     let h = c.self.invariant in
     let is_top : top (cpus_in a) c.args.cpu.0 ≡ Some c.in-Some.f = cc in
     record {
-      frames_room = h.frames_room;
       live_room = h.live_room;
       peaks_room = h.peaks_room;
       parked_room = omega arith;
-      blank = h.blank;
       kept = rw (c.pop_from.ensures.rest, c.put.ensures.entries, in_order_is c.in-Some.f a.parked.entries (top_not_parked (cpus_in a) a.live.items c.args.cpu.0 c.in-Some.f is_top h.kept.live))
           (kept_park (cpus_in a) a.live.items a.peaks.items a.on a.waits c.args.cpu.0 c.in-Some.f is_top h.kept);
       untils = rw (c.pop_from.ensures.rest, c.put.ensures.entries, in_order_is c.in-Some.f a.parked.entries (top_not_parked (cpus_in a) a.live.items c.args.cpu.0 c.in-Some.f is_top h.kept.live)) (spending_parked (cpus_in a) a.untils c.args.cpu.0 c.in-Some.f is_top h.untils);
@@ -47,11 +45,9 @@ invariant_of-self-in_default c =
     let none : first_of_list (entry [] a.stacks.items c.args.cpu.0) ≡ None = nothing_else _ _ c.pop_from.ensures.top c.in_default.not-Some in
     let many : length c.args.self.now.stacks ≡ length a.stacks.items = ap (λ (C : Cpus). length C.stacks) (sym c.self.view_is) in
     record {
-      frames_room = h.frames_room;
       live_room = h.live_room;
       peaks_room = h.peaks_room;
       parked_room = h.parked_room;
-      blank = h.blank;
       kept = rw (c.pop_from.ensures.rest, empty_stays a.stacks.items c.args.cpu.0 (omega arith) none) h.kept;
       untils = rw (c.pop_from.ensures.rest, empty_stays a.stacks.items c.args.cpu.0 (omega arith) none) h.untils;
     }

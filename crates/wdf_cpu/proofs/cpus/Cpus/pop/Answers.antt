@@ -24,11 +24,10 @@ put_at-requires-2 c =
     let within = top_within (cpus_in c.self.inside) c.self.inside.live.items c.args.cpu.0 c.unwrap.result is_top c.self.invariant.kept.live in
     record { room = omega arith }
 
-pub put_at-requires-3 : goal.put_at-requires-3
-put_at-requires-3 c =
+pub remove-requires : goal.remove-requires
+remove-requires c =
     let is_top : top (cpus_in c.self.inside) c.args.cpu.0 ≡ Some c.unwrap.result = cc in
-    let within = top_within (cpus_in c.self.inside) c.self.inside.live.items c.args.cpu.0 c.unwrap.result is_top c.self.invariant.kept.live in
-    record { room = omega arith }
+    top_within (cpus_in c.self.inside) c.self.inside.live.items c.args.cpu.0 c.unwrap.result is_top c.self.invariant.kept.live
 
 pub moves-requires-3-clause-room : goal.moves-requires-3-clause-room
 moves-requires-3-clause-room c = few_ticks (cpus_in c.self.inside) c.self.inside.untils FRAMES c.self.invariant.untils (few_frames (cpus_in c.self.inside) c.self.inside.live.items c.self.invariant.kept.live)
@@ -38,7 +37,7 @@ moves-requires-3-clause-there c =
     let a = c.self.inside in
     let is_top : top (cpus_in a) c.args.cpu.0 ≡ Some c.unwrap.result = cc in
     let one = top_is_on (cpus_in a) a.live.items c.args.cpu.0 c.unwrap.result is_top c.self.invariant.kept.live in
-    rw (c.entry_at.ensures, c.deref.ensures.value) (until_there (cpus_in a) a.untils c.unwrap.result (frame_of (cpus_in a) c.unwrap.result).until refl one c.self.invariant.untils)
+    rw c.running.ensures (until_there (cpus_in a) a.untils c.unwrap.result (frame_of (cpus_in a) c.unwrap.result).until refl one c.self.invariant.untils)
 
 pub forget-requires : goal.forget-requires
 forget-requires c =
@@ -51,19 +50,17 @@ invariant_of-self c =
     let h = c.self.invariant in
     let is_top : top (cpus_in a) c.args.cpu.0 ≡ Some c.unwrap.result = cc in
     let one = top_is_on (cpus_in a) a.live.items c.args.cpu.0 c.unwrap.result is_top h.kept.live in
-    let object : option_map (λ (o : ObjectId). o.0) c.object_key.result ≡ object_key (frame_of (cpus_in a) c.unwrap.result) = rw (c.entry_at.ensures, c.deref.ensures.value) at c.object_key.ensures in
-    let awaited : option_map (λ (o : ObjectId). o.0) c.wait_key.result ≡ wait_key (frame_of (cpus_in a) c.unwrap.result) = rw (c.entry_at.ensures, c.deref.ensures.value) at c.wait_key.ensures in
+    let object : option_map (λ (o : ObjectId). o.0) c.object_key-object.result ≡ object_key (frame_of (cpus_in a) c.unwrap.result) = rw c.running.ensures at c.object_key-object.ensures in
+    let awaited : option_map (λ (o : ObjectId). o.0) c.wait_key-awaited.result ≡ wait_key (frame_of (cpus_in a) c.unwrap.result) = rw c.running.ensures at c.wait_key-awaited.ensures in
     record {
-      frames_room = omega arith;
       live_room = omega arith;
       peaks_room = omega arith;
       parked_room = h.parked_room;
-      blank = h.blank;
-      kept = rw (c.put_at.ensures.entries, c.pop_from.ensures.rest, c.forget.ensures, c.put_at-2.ensures.entries, c.put_at-3.ensures.entries)
+      kept = rw (c.remove.ensures, c.pop_from.ensures.rest, c.forget.ensures, c.put_at.ensures.entries, c.put_at-2.ensures.entries)
           (kept_pop (cpus_in a) a.live.items a.peaks.items a.on a.waits c.args.cpu.0 c.unwrap.result c.moves.new.self c.moves-2.new.self is_top
-          (swapped_by a.on c.moves.new.self c.object_key.result None (object_key (frame_of (cpus_in a) c.unwrap.result)) None c.moves.ensures object refl (on_counted a c.unwrap.result _ h refl one))
-          (swapped_by a.waits c.moves-2.new.self c.wait_key.result None (wait_key (frame_of (cpus_in a) c.unwrap.result)) None c.moves-2.ensures awaited refl (wait_counted a c.unwrap.result _ h refl one))
+          (swapped_by a.on c.moves.new.self c.object_key-object.result None (object_key (frame_of (cpus_in a) c.unwrap.result)) None c.moves.ensures object refl (on_counted a c.unwrap.result _ h refl one))
+          (swapped_by a.waits c.moves-2.new.self c.wait_key-awaited.result None (wait_key (frame_of (cpus_in a) c.unwrap.result)) None c.moves-2.ensures awaited refl (wait_counted a c.unwrap.result _ h refl one))
           h.kept);
-      untils = rw (c.put_at.ensures.entries, c.pop_from.ensures.rest, c.forget.ensures)
-          (spending_popped (cpus_in a) a.untils c.moves-3.new.self c.args.cpu.0 c.unwrap.result is_top (top_goes_off (cpus_in a) a.live.items c.args.cpu.0 c.unwrap.result is_top h.kept.live) (rw (c.entry_at.ensures, c.deref.ensures.value) at c.moves-3.ensures) h.untils);
+      untils = rw (c.remove.ensures, c.pop_from.ensures.rest, c.forget.ensures)
+          (spending_popped (cpus_in a) a.untils c.moves-3.new.self c.args.cpu.0 c.unwrap.result is_top (top_goes_off (cpus_in a) a.live.items c.args.cpu.0 c.unwrap.result is_top h.kept.live) (rw c.running.ensures at c.moves-3.ensures) h.untils);
     }

@@ -33,16 +33,14 @@ invariant_of-self c =
     let h = c.self.invariant in
     let fresh : contains c.args.f.0 (all_frames (cpus_in a)) ≡ false = cc in
     record {
-      frames_room = omega arith;
       live_room = omega arith;
       peaks_room = omega arith;
       parked_room = h.parked_room;
-      blank = h.blank;
-      kept = rw (c.put_at.ensures.entries, c.push_on.ensures.pushed, c.put_at-2.ensures.entries, c.put_at-3.ensures.entries)
+      kept = rw (c.put.ensures, c.push_on.ensures.pushed, c.put_at.ensures.entries, c.put_at-2.ensures.entries)
           (kept_push (cpus_in a) a.live.items a.peaks.items a.on a.waits c.args.cpu.0 c.args.f.0 c.args.frame c.args.level.0 c.peak.result.0 c.moves.new.self c.moves-2.new.self
           c.requires.room fresh c.peak.ensures
           (swapped_by a.on c.moves.new.self None c.object_key.result None (object_key c.args.frame) c.moves.ensures refl c.object_key.ensures (none_left a.on))
           (swapped_by a.waits c.moves-2.new.self None c.wait_key.result None (wait_key c.args.frame) c.moves-2.ensures refl c.wait_key.ensures (none_left a.waits))
           h.kept);
-      untils = rw (c.put_at.ensures.entries, c.push_on.ensures.pushed) (spending_push (cpus_in a) a.untils c.moves-3.new.self c.args.cpu.0 c.args.f.0 c.args.frame c.args.level.0 (absent_from c.args.f.0 (all_frames (cpus_in a)) fresh) c.moves-3.ensures h.untils);
+      untils = rw (c.put.ensures, c.push_on.ensures.pushed) (spending_push (cpus_in a) a.untils c.moves-3.new.self c.args.cpu.0 c.args.f.0 c.args.frame c.args.level.0 (absent_from c.args.f.0 (all_frames (cpus_in a)) fresh) c.moves-3.ensures h.untils);
     }

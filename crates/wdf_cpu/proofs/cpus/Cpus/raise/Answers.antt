@@ -9,11 +9,9 @@ invariant_of-self c =
     let a = c.self.inside in
     let h = c.self.invariant in
     record {
-      frames_room = h.frames_room;
       live_room = h.live_room;
       peaks_room = omega arith;
       parked_room = h.parked_room;
-      blank = h.blank;
       kept = rw (c.raise.ensures, c.put_at.ensures.entries, c.max.ensures, c.entry_at-peak.ensures, c.deref.ensures.value)
           (kept_raise (cpus_in a) a.live.items a.peaks.items a.on a.waits c.args.f.0 c.args.level.0 h.kept);
       untils = rw c.raise.ensures (record { counts = h.untils.counts; many = h.untils.many });

@@ -19,11 +19,9 @@ invariant_of-self c =
     let h = c.self.invariant in
     let is : contains c.args.f.0 a.parked.entries ≡ true = cc in
     record {
-      frames_room = h.frames_room;
       live_room = h.live_room;
       peaks_room = h.peaks_room;
       parked_room = omega arith;
-      blank = h.blank;
       kept = rw (c.push_on.ensures.pushed, c.remove_number.ensures.entries)
           (kept_unpark (cpus_in a) a.live.items a.peaks.items a.on a.waits c.args.cpu.0 c.args.f.0 is h.kept);
       untils = rw (c.push_on.ensures.pushed, c.remove_number.ensures.entries) (spending_unpark (cpus_in a) a.untils c.args.cpu.0 c.args.f.0 (parked_once (cpus_in a) a.live.items c.args.f.0 h.kept.live is) h.untils);
