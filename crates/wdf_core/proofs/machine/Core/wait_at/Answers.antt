@@ -6,8 +6,8 @@ use Rattle.wdf_core.proofs.machine.Core.wait_at.Goals as goal
 
 pub next_wait-requires : goal.next_wait-requires
 next_wait-requires g c =
-    some_left (wait_list c.args.self.now.plan g.A.Agent.meaning c.args.self.now.journal) _ c.args.k c.wait_place.ensures c.requires
+    some_left (wait_list c.args.self.now.plan g.A.Agent.meaning c.args.self.now.journal) _ c.args.k c.wait_place-place.ensures c.requires
 
 pub returns : goal.returns
 returns g c =
-    item_at (wait_list c.args.self.now.plan g.A.Agent.meaning c.args.self.now.journal) _ c.args.k _ (sym c.wait_place.ensures ∙ c.next_wait.ensures)
+    item_at (wait_list c.args.self.now.plan g.A.Agent.meaning c.args.self.now.journal) _ c.args.k _ (sym c.wait_place-place.ensures ∙ c.next_wait.ensures)
