@@ -1,6 +1,6 @@
 -- The text of the story of a seed tells a run of the kind of the seed's.
-use Rattle.std.proofs.Common.{◌≡◌, ℕ, ◌≤◌, IsTrue, List, [], length, None, sym, ap, ◌∙◌, subst, arith}
-use Rattle.std.proofs.lemmas.Bool.Decides.{nat_tests}
+use Rattle.std.proofs.Common.{◌≡◌, ℕ, ◌≤◌, nat_le, IsTrue, List, [], length, None, sym, ap, ◌∙◌, subst, arith}
+use Rattle.std.proofs.lemmas.Bool.{and_parts, leb-true}
 use Rattle.wdf_base.specs.declared.event.Event.{Event}
 use Rattle.wdf_base.specs.declared.plan.Plan.{Plan}
 use Rattle.wdf_base.specs.Resolved.{is_from}
@@ -28,7 +28,8 @@ few_events : (scene : Scene) → IsSpelled scene → first_refusal scene ≡ Non
 few_events scene is none' picks run picked =
     let scene_is : IsScene scene = record { ws = is.ws; is = is.is; lines = is.lines } in
     let limit : IsTrue (is_from 1 200000 (plan_of scene).limit) = (plan_bounded scene scene_is none').limit in
-    let small : (plan_of scene).limit ≤ 200000 = grind (arith, nat_tests, limit) in
+    let parts = and_parts (nat_le 1 (plan_of scene).limit) (nat_le (plan_of scene).limit 200000) limit in
+    let small : (plan_of scene).limit ≤ 200000 = leb-true (plan_of scene).limit 200000 parts.1 in
     let runs : IsRunOf (plan_of scene) agent_meaning run = picked_is_run (ready (plan_of scene) agent_meaning) picks [] run (run_opens (ready (plan_of scene) agent_meaning)) picked in
     let within = within_limit_of (plan_of scene) agent_meaning run runs in
     omega (arith, small, within)

@@ -11,8 +11,8 @@ use Rattle.wdf_dev.specs.Agents.{agent_meaning}
 use Rattle.law_bare.specs.Bare.{HasLikePicked, bare_event}
 use Rattle.law_bare.specs.Lines.{bare_plan}
 
--- A text is a scenario with these picks, else with the plan of a scene but for the numbers of lines: a scene stands for it, no
--- line of it is refused, and its `order` block has these picks, or there is none and there are none.
+-- A text is a scenario with these picks and, but for them and the numbers of lines, with the plan of this scene: a scene stands for
+-- it, and no line of it is refused.
 pub record IsScenarioOf (scene : Scene) (picks : List ℕ) (text : List ℕ) : Type 0 where
   pub again : Scene
   pub stands : StandsFor text again

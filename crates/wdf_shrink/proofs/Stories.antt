@@ -1,10 +1,11 @@
 -- A run that is told is a story of its own picks; and a story of a seed's run is one of the seed.
-use Rattle.std.proofs.Common.{ℕ, zero, suc, ◌≡◌, ◌+◌, ◌%◌, ◌<◌, ◌≤◌, ◌^◌, ◌&&◌, All, Bool, true, false, List, [], ◌∷◌, bytes_eq, length, length-take-le, nat_le, slice_get, slice_index, take, refl, sym, ap, ◌∙◌, subst, arith}
+use Rattle.std.proofs.Common.{ℕ, zero, suc, ◌≡◌, ◌+◌, ◌%◌, ◌<◌, ◌≤◌, ◌^◌, ◌&&◌, All, Bool, true, false, List, [], ◌∷◌, bytes_eq, length, length-take, nat_le, IfOk, Result, Ok, Err, slice_get, slice_index, take, refl, sym, ap, ◌∙◌, subst, arith}
 use Rattle.std.proofs.lemmas.Bool.{false≢true}
 use Rattle.std.proofs.lemmas.Bool.Decides.{nat_tests}
 use Rattle.std.proofs.lemmas.Option.{slice_get_within}
 use Rattle.std.proofs.lemmas.Slice.Eq.{bytes_eq-Decides}
 use Rattle.wdf_base.specs.declared.event.Event.{Event}
+use Rattle.wdf_base.specs.declared.memory.Memory.{Memory}
 use Rattle.wdf_model.specs.Runs.{IsPickedFrom, Picked}
 use Rattle.wdf_model.specs.rules.Ready.{IsPickedRun, ready}
 use Rattle.wdf_model.proofs.Runs.{picked_once}
@@ -72,7 +73,7 @@ kept_story tried kind most picks first told story is same =
     subst (IsKept tried kind most) taken
     (record {
       story = record { run = story.run; picked = picked_kept (ready (plan_of tried.scene) agent_meaning) picks story.run story.picked; kind_is = story.kind_is; few = story.few };
-      few = length-take-le (length story.run) picks;
+      few = omega (arith, length-take (length story.run) picks);
     })
 
 pub seed_story : (tried : Case) (seed : ℕ) (words picks first : List ℕ) (goal told : Told) → words ≡ seed_words seed (plan_of tried.scene).limit → IsToldOf tried words goal → IsStory tried goal.kind goal.events picks
@@ -88,3 +89,9 @@ seed_story tried seed words picks first goal told same is story last taken short
       few_picks = kept.few;
       short = short;
     }
+
+-- so of what was cut, where there was memory
+pub story_if : {V : Type 0} (items : V → List ℕ) (tried : Case) (seed : ℕ) (words picks : List ℕ) (goal told : Told) (r : Result V Memory) → words ≡ seed_words seed (plan_of tried.scene).limit → IsToldOf tried words goal → IsStory tried goal.kind goal.events picks
+    → IsToldOf tried picks told → IfOk r (λ first. items first ≡ take told.events picks) → IfOk r (λ first. All (λ pick. pick < 2 ^ 64) (items first)) → IfOk r (λ first. IsStoryOfSeed tried seed (items first))
+story_if items tried seed words picks goal told (Ok first) same is story last taken short = seed_story tried seed words picks (items first) goal told same is story last taken short
+story_if items tried seed words picks goal told (Err memory) same is story last taken short = tt
