@@ -5,7 +5,9 @@
 
 `rt check`, `rt lib` and their like ask of each library below a crate whether it fits its sources. The kit makes that checksum
 anew for each way through crates.txt from the crate to the library: half a minute for wdf_core, minutes for wdf_serve, before
-anything is proved. This script has `rt` remember it for three seconds. What is proved is the same. The gate doesn't use it.
+anything is proved. This script has `rt` remember it for three seconds, and for a minute in `ci`, during which no source may change.
+What is proved is the same. The gate runs `rt ci` by it: of a kit that doesn't remember them itself, as 13b, the checksums alone would
+take it more than two hours, one after the other.
 """
 import importlib.machinery
 import os
@@ -14,7 +16,7 @@ import shutil
 import sys
 import time
 
-SECONDS = 3
+SECONDS = 60 if sys.argv[1:2] == ["ci"] else 3
 stamps, belows = {}, {}
 
 
@@ -23,7 +25,7 @@ def remember(crate_type):
     plain_stamp, plain_below = crate_type.stamp, crate_type.below
 
     def stamp(crate):
-        """The checksum of all that the crate's library is made from, at most three seconds old."""
+        """The checksum of all that the crate's library is made from, at most so many seconds old."""
         made, at = stamps.get(crate.folder, (None, 0.0))
         if made is None or time.monotonic() - at > SECONDS:
             made = plain_stamp(crate)
