@@ -278,7 +278,15 @@ fn pushes(cpus: &mut Cpus, cpu: Cpu, f: FrameId, frame: Frame, level: Irql) -> b
 
 /// The top frame of a processor ends; whether there is one, and it is this.
 fn pops(cpus: &mut Cpus, cpu: Cpu, due: Frame) -> bool {
-    usize::from(cpu.0) < cpus.cpu_len() && cpus.top(cpu).is_some() && cpus.pop(cpu) == due
+    if usize::from(cpu.0) >= cpus.cpu_len() {
+        return false;
+    }
+    let Some(f) = cpus.top(cpu) else {
+        return false;
+    };
+    let is_due = *cpus.frame(f) == due;
+    cpus.pop(cpu);
+    is_due
 }
 
 /// The top frame of a processor parks; whether the processor is there.
