@@ -1,5 +1,6 @@
 ghost use Rattle.std.specs.Prelude.{◌≡◌, ◌+◌, ◌*◌, ◌/◌, ◌<◌, ◌≤◌, ◌^◌, IfOk, MatchOption, false, length, replicate, slice_get, slice_set};
 ghost use Rattle.std.specs.Int.{div_ceil};
+ghost use Rattle.wdf_sets.specs.Counted.{has_some};
 ghost use Rattle.wdf_sets.specs.Members.{is_in, members, rank};
 ghost use Rattle.wdf_sets.specs.Nexts.{IsNext, NoneFrom};
 ghost use Rattle.wdf_sets.specs.Parts.{HasMember, number_of};
@@ -15,12 +16,15 @@ const BLOCK: u32 = 4096;
 /// How many words a block has.
 const BLOCK_WORDS: u32 = 64;
 
-/// A set of ids below a bound. No call looks at each id: the members of each 4,096 ids are counted.
+/// A set of ids below a bound. No call looks at each id: the members of each 4,096 ids are counted, and it is
+/// noted which words of 64 ids have some.
 ///
 /// Contracts see a list of bits, one for each id from 0.
 #[derive(Drop)]
 pub struct IdSet {
     bits: Bits,
+    /// Which words of the bits have a member.
+    words: Bits,
     /// How many members each block has.
     counts: Vec<u32>,
     /// How many members there are.
@@ -32,11 +36,11 @@ impl Model for IdSet {
 
     ghost Value = { List Bool };
 
-    ghost use Rattle.wdf_sets.specs.Counted.{IsCounted};
+    ghost use Rattle.wdf_sets.specs.Counted.{IsInOrder};
 
     ghost view = { λ s. s.bits };
 
-    ghost invariant = { IsCounted };
+    ghost invariant = { IsInOrder };
 }
 
 /// Nothing is counted in any block any more.
@@ -44,6 +48,18 @@ fn zero_counts(counts: &mut Vec<u32>)
     ensures { counts.new.items ≡ replicate (length counts.old.items) 0 }
 {
     counts.as_mut_slice().fill(0);
+}
+
+/// Notes whether a word has a member.
+fn note_word(bits: &Bits, word: u32, words: &mut Bits)
+    requires there { word < length words.old }
+    requires small { 64 * word < 2 ^ 32 }
+    ensures { words.new ≡ slice_set words.old word (has_some word bits.now) }
+{
+    let some = bits.first_in_word(WORD * word).is_some();
+    if words.get(word) != some {
+        words.set(word, some);
+    }
 }
 
 impl IdSet {
@@ -56,6 +72,7 @@ impl IdSet {
         let blocks = bound.div_ceil(BLOCK);
         Ok(IdSet {
             bits: Bits::make(alloc, BLOCK_WORDS * blocks)?,
+            words: Bits::make(alloc, blocks)?,
             counts: vec![in alloc; 0; blocks as usize]?,
             len: 0,
         })
@@ -66,6 +83,7 @@ impl IdSet {
         ensures { self.new ≡ replicate (length self.old) false }
     {
         self.bits.clear();
+        self.words.clear();
         zero_counts(&mut self.counts);
         self.len = 0;
     }
@@ -93,6 +111,7 @@ impl IdSet {
             return;
         }
         self.bits.set(id, on);
+        note_word(&self.bits, id / WORD, &mut self.words);
         let count = &mut self.counts[(id / BLOCK) as usize];
         if on {
             *count += 1;
@@ -145,7 +164,10 @@ impl IdSet {
         if self.len <= k {
             return None;
         }
-        let word = self.bits.word_of(self.block_of(k));
+        if k == 0 {
+            return self.from(0);
+        }
+        let word = self.word_of(self.block_of(k));
         Some(self.bits.member_in(word))
     }
 
@@ -153,7 +175,16 @@ impl IdSet {
     pub fn from(&self, id: u32) -> Option<u32>
         ensures { result ≡ slice_get (members self.now) (rank id self.now) }
     {
-        self.at(self.before(id))
+        if self.len == 0 {
+            return None;
+        }
+        match self.bits.first_in_word(id) {
+            Some(found) => Some(found),
+            None => {
+                let word = self.words.first_from(id / WORD + 1)?;
+                self.bits.first_in_word(WORD * word)
+            }
+        }
     }
 
     /// The first member from an id on that is below an end, `None` where there is none.
@@ -182,6 +213,23 @@ impl IdSet {
         Part {
             start: BLOCK * block,
             skipped,
+        }
+    }
+    /// The word of the member that is looked for, in a block that has it.
+    fn word_of(&self, block: Part) -> Part
+        requires block { HasMember self.now block 4096 }
+        ensures same { number_of self.now result ≡ number_of self.now block }
+        ensures word { HasMember self.now result 64 }
+    {
+        let mut start = block.start;
+        let mut skipped = block.skipped;
+        loop {
+            let count = self.bits.count_word(start);
+            if skipped < count {
+                return Part { start, skipped };
+            }
+            skipped -= count;
+            start = WORD * self.words.first_in_word(start / WORD + 1).unwrap();
         }
     }
 }
