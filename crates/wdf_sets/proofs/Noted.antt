@@ -247,33 +247,34 @@ noted_none n m e = record {
 -- ---- a member is looked for in a block
 
 module _ (bits words : List Bool) (noted : AreNoted bits words) (block : Part) (skipped start count : ℕ)
-    (has : HasMember bits block 4096) (passes : Passes bits block skipped start) (counted : count + rank start bits ≡ rank (start + 64) bits) (few : count ≤ skipped) where
+    (has : HasMember bits block 512) (passes : Passes bits block skipped start) (counted : count + rank start bits ≡ rank (start + 64) bits) (few : count ≤ skipped) where
   -- the block goes on after the word
-  more_words : start + 64 < block.start + 4096
+  more_words : start + 64 < block.start + 512
   more_words =
       let number : skipped + rank start bits ≡ number_of bits block = passes.number in
-      let there : number_of bits block < rank (block.start + 4096) bits = has.there in
-      rank_below bits (start + 64) (block.start + 4096) (omega arith)
-
-  block_end : 64 * (64 * ((start / 64 + 1) / 64) + 64) ≡ block.start + 4096
-  block_end =
-      let more = more_words in
-      let low : block.start ≤ start = passes.low in
-      let first : block.start % 4096 ≡ 0 = has.begins in
-      let begins : start % 64 ≡ 0 = passes.begins in
-      omega arith
+      let there : number_of bits block < rank (block.start + 512) bits = has.there in
+      rank_below bits (start + 64) (block.start + 512) (omega arith)
 
   next_start : 64 * (start / 64 + 1) ≡ start + 64
   next_start = let begins : start % 64 ≡ 0 = passes.begins in omega arith
+
+  -- the words that are noted together go as far as the block
+  far : block.start + 512 ≤ 64 * (64 * ((start / 64 + 1) / 64) + 64)
+  far =
+      let more = more_words in
+      let low : block.start ≤ start = passes.low in
+      let first : block.start % 512 ≡ 0 = has.begins in
+      let begins : start % 64 ≡ 0 = passes.begins in
+      omega arith
 
   -- some later word of the block is noted
   not_none : NoneFrom (in_set words) (start / 64 + 1) (64 * ((start / 64 + 1) / 64) + 64) → ⊥
   not_none none =
       let all : rank (64 * (64 * ((start / 64 + 1) / 64) + 64)) bits ≡ rank (64 * (start / 64 + 1)) bits = no_words bits words noted (start / 64 + 1) (64 * ((start / 64 + 1) / 64) + 64) (omega arith) none in
-      let high : rank (64 * (64 * ((start / 64 + 1) / 64) + 64)) bits ≡ rank (block.start + 4096) bits = ap (λ x. rank x bits) block_end in
+      let high : rank (block.start + 512) bits ≤ rank (64 * (64 * ((start / 64 + 1) / 64) + 64)) bits = rank_mono bits (block.start + 512) (64 * (64 * ((start / 64 + 1) / 64) + 64)) far in
       let low : rank (64 * (start / 64 + 1)) bits ≡ rank (start + 64) bits = ap (λ x. rank x bits) next_start in
       let number : skipped + rank start bits ≡ number_of bits block = passes.number in
-      let there : number_of bits block < rank (block.start + 4096) bits = has.there in
+      let there : number_of bits block < rank (block.start + 512) bits = has.there in
       let z : ⊥ = omega arith in z
 
   module _ (found : Option ℕ) (first : MatchOption found (NoneFrom (in_set words) (start / 64 + 1) (64 * ((start / 64 + 1) / 64) + 64)) (IsNext (in_set words) (start / 64 + 1) (64 * ((start / 64 + 1) / 64) + 64))) where
@@ -288,15 +289,12 @@ module _ (bits words : List Bool) (noted : AreNoted bits words) (block : Part) (
       next : IsNext (in_set words) (start / 64 + 1) (64 * ((start / 64 + 1) / 64) + 64) w
       next = subst (λ r. MatchOption r (NoneFrom (in_set words) (start / 64 + 1) (64 * ((start / 64 + 1) / 64) + 64)) (IsNext (in_set words) (start / 64 + 1) (64 * ((start / 64 + 1) / 64) + 64))) is first
 
-      -- the word is in the block
-      pub in_block : 64 * w < block.start + 4096
-      in_block = let below : w < 64 * ((start / 64 + 1) / 64) + 64 = next.within in let end = block_end in omega arith
-
       pub passes_on : Passes bits block (skipped - count) (64 * w)
       passes_on =
           let above : start / 64 + 1 ≤ w = next.after in
           let same : rank (64 * w) bits ≡ rank (64 * (start / 64 + 1)) bits = no_words bits words noted (start / 64 + 1) w above next.before in
           let low : rank (64 * (start / 64 + 1)) bits ≡ rank (start + 64) bits = ap (λ x. rank x bits) next_start in
           let number : skipped + rank start bits ≡ number_of bits block = passes.number in
+          let there : number_of bits block < rank (block.start + 512) bits = has.there in
           let first_id : block.start ≤ start = passes.low in
-          record { number = omega arith; begins = omega arith; low = omega arith; high = in_block }
+          record { number = omega arith; begins = omega arith; low = omega arith; high = rank_below bits (64 * w) (block.start + 512) (omega arith) }

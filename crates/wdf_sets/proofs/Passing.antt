@@ -9,7 +9,7 @@ pub record Passes (bits : List Bool) (block : Part) (skipped start : ℕ) : Type
   pub number : skipped + rank start bits ≡ number_of bits block
   pub begins : start % 64 ≡ 0
   pub low : block.start ≤ start
-  pub high : start < block.start + 4096
+  pub high : start < block.start + 512
 
 -- A part of a word is cut in two, and the member stays in it.
 pub record Narrows (bits : List Bool) (skipped start skipped' start' size : ℕ) : Type 0 where

@@ -3,12 +3,12 @@ use Rattle.std.specs.Prelude.{ℕ, ◌≡◌, ◌+◌, ◌*◌, ◌<◌, ◌≤�
 use Rattle.wdf_sets.specs.Members.{is_in, rank}
 use Rattle.wdf_sets.specs.declared.id_set.IdSet.TheInside.{Inside}
 
--- The members of each 4,096 ids are counted, and all of them.
+-- The members of each 512 ids are counted, and all of them.
 pub record AreCounted (bits : List Bool) (counts : List ℕ) (len : ℕ) : Type 0 where
-  pub blocks : length bits ≡ 4096 * length counts
+  pub blocks : length bits ≡ 512 * length counts
   pub few : length bits ≤ 2 ^ 31
   pub whole : len ≡ rank (length bits) bits
-  pub counted : (b : ℕ) → b < length counts → slice_index counts b + rank (4096 * b) bits ≡ rank (4096 * b + 4096) bits
+  pub counted : (b : ℕ) → b < length counts → slice_index counts b + rank (512 * b) bits ≡ rank (512 * b + 512) bits
 
 -- whether a word of 64 ids has a member
 abbrev pub has_some : ℕ → List Bool → Bool

@@ -11,12 +11,15 @@ use std::marker::Model;
 use wdf_base::Memory;
 
 /// How many ids are counted together.
-const BLOCK: u32 = 4096;
+const BLOCK: u32 = 512;
 
 /// How many words a block has.
-const BLOCK_WORDS: u32 = 64;
+const BLOCK_WORDS: u32 = 8;
 
-/// A set of ids below a bound. No call looks at each id: the members of each 4,096 ids are counted, and it is
+/// The bound is rounded up to a multiple of this: as many ids have their words noted in one word.
+const ROUND: u32 = 4096;
+
+/// A set of ids below a bound. No call looks at each id: the members of each 512 ids are counted, and it is
 /// noted which words of 64 ids have some.
 ///
 /// Contracts see a list of bits, one for each id from 0.
@@ -69,11 +72,11 @@ impl IdSet {
         requires { bound < 2 ^ 31 }
         ensures { IfOk result (λ set. set ≡ replicate (4096 * div_ceil bound 4096) false) }
     {
-        let blocks = bound.div_ceil(BLOCK);
+        let rounds = bound.div_ceil(ROUND);
         Ok(IdSet {
-            bits: Bits::make(alloc, BLOCK_WORDS * blocks)?,
-            words: Bits::make(alloc, blocks)?,
-            counts: vec![in alloc; 0; blocks as usize]?,
+            bits: Bits::make(alloc, ROUND / WORD * rounds)?,
+            words: Bits::make(alloc, rounds)?,
+            counts: vec![in alloc; 0; (ROUND / BLOCK * rounds) as usize]?,
             len: 0,
         })
     }
@@ -135,8 +138,8 @@ impl IdSet {
 
     /// How many members are below a block.
     fn before_block(&self, block: u32) -> u32
-        requires { 4096 * block ≤ length self.now }
-        ensures { result ≡ rank (4096 * block) self.now }
+        requires { 512 * block ≤ length self.now }
+        ensures { result ≡ rank (512 * block) self.now }
     {
         let mut below = 0;
         for counted in 0..block {
@@ -148,7 +151,7 @@ impl IdSet {
     /// How many members of an id's block are below its word.
     fn before_word(&self, id: u32) -> u32
         requires { id < length self.now }
-        ensures { result + rank (4096 * (id / 4096)) self.now ≡ rank (64 * (id / 64)) self.now }
+        ensures { result + rank (512 * (id / 512)) self.now ≡ rank (64 * (id / 64)) self.now }
     {
         let mut below = 0;
         for word in id / BLOCK * BLOCK_WORDS..id / WORD {
@@ -201,7 +204,7 @@ impl IdSet {
     fn block_of(&self, k: u32) -> Part
         requires { k < rank (length self.now) self.now }
         ensures number { number_of self.now result ≡ k }
-        ensures block { HasMember self.now result 4096 }
+        ensures block { HasMember self.now result 512 }
         ensures few { length self.now ≤ 2 ^ 31 }
     {
         let mut block = 0;
@@ -217,7 +220,7 @@ impl IdSet {
     }
     /// The word of the member that is looked for, in a block that has it.
     fn word_of(&self, block: Part) -> Part
-        requires block { HasMember self.now block 4096 }
+        requires block { HasMember self.now block 512 }
         ensures same { number_of self.now result ≡ number_of self.now block }
         ensures word { HasMember self.now result 64 }
     {

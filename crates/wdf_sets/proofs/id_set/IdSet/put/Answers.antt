@@ -11,7 +11,7 @@ overflow_add-count c =
     let there : c.args.id < length set.bits = subst (λ bits. c.args.id < length bits) (sym c.self.view_is) c.requires in
     let change : IsChange set.bits set.counts.items set.len c.args.id count c.get.result c.args.on
     = record { counted = c.self.invariant.0; there = there; read = c.index_mut-count.ensures.value; bit = c.get.ensures; differs = c.if-get-on.false } in
-    let few : count ≤ 4096 = (grows set.bits set.counts.items set.len c.args.id count c.get.result c.args.on change c.if-on.true).0 in
+    let few : count ≤ 512 = (grows set.bits set.counts.items set.len c.args.id count c.get.result c.args.on change c.if-on.true).0 in
     omega arith
 
 pub invariant_of-self : goal.invariant_of-self
@@ -21,7 +21,7 @@ invariant_of-self c =
     let there : c.args.id < length set.bits = subst (λ bits. c.args.id < length bits) (sym c.self.view_is) c.requires in
     let change : IsChange set.bits set.counts.items set.len c.args.id count c.get.result c.args.on
     = record { counted = c.self.invariant.0; there = there; read = c.index_mut-count.ensures.value; bit = c.get.ensures; differs = c.if-get-on.false } in (
-      subst (λ bits. AreCounted bits (slice_set set.counts.items (c.args.id / 4096) (count + 1)) (set.len + 1)) (sym c.set.ensures)
+      subst (λ bits. AreCounted bits (slice_set set.counts.items (c.args.id / 512) (count + 1)) (set.len + 1)) (sym c.set.ensures)
           (grows set.bits set.counts.items set.len c.args.id count c.get.result c.args.on change c.if-on.true).1,
       subst (λ words. AreNoted c.set.new.self words) (sym c.note_word.ensures)
           (subst (λ bits. AreNoted bits (slice_set set.words (c.args.id / 64) (has_some (c.args.id / 64) bits))) (sym c.set.ensures) (noted_put set.bits set.words c.args.id c.args.on c.self.invariant.1 there)),
@@ -43,7 +43,7 @@ invariant_of-self-else-on c =
     let there : c.args.id < length set.bits = subst (λ bits. c.args.id < length bits) (sym c.self.view_is) c.requires in
     let change : IsChange set.bits set.counts.items set.len c.args.id count c.get.result c.args.on
     = record { counted = c.self.invariant.0; there = there; read = c.index_mut-count.ensures.value; bit = c.get.ensures; differs = c.if-get-on.false } in (
-      subst (λ bits. AreCounted bits (slice_set set.counts.items (c.args.id / 4096) (count - 1)) (set.len - 1)) (sym c.set.ensures)
+      subst (λ bits. AreCounted bits (slice_set set.counts.items (c.args.id / 512) (count - 1)) (set.len - 1)) (sym c.set.ensures)
           (shrinks set.bits set.counts.items set.len c.args.id count c.get.result c.args.on change c.if-on.false).1,
       subst (λ words. AreNoted c.set.new.self words) (sym c.note_word.ensures)
           (subst (λ bits. AreNoted bits (slice_set set.words (c.args.id / 64) (has_some (c.args.id / 64) bits))) (sym c.set.ensures) (noted_put set.bits set.words c.args.id c.args.on c.self.invariant.1 there)),
