@@ -32,9 +32,8 @@ pub(crate) fn post_offered<A: Agent>(
 fn may_come<A: Agent>(plan: &IndexedPlan, parts: &Parts<A>, agent: u16) -> bool
     ensures { result ≡ is_some (search.offered plan.now A.meaning parts.now group.Posts agent) }
 {
-    let due = due_of(parts, agent);
-    match &due {
-        Some(post) => post_fits(plan, parts, agent, post),
+    match due_of(parts, agent) {
+        Some(post) => post_fits(plan, parts, agent, &post),
         None => false,
     }
 }
