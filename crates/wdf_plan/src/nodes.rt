@@ -1,5 +1,5 @@
 //! The nodes of the expressions of a plan, and its picks.
-ghost use Rattle.std.specs.Prelude.{◌≡◌, ◌++◌, ◌∷◌, [], ◌+◌, ◌-◌, ◌<◌, ◌^◌, length, IfOk, OnOk, take, drop, map};
+ghost use Rattle.std.specs.Prelude.{◌≡◌, ◌++◌, ◌∷◌, [], ◌+◌, ◌<◌, ◌^◌, length, IfOk, OnOk, map};
 ghost use Rattle.std.specs.List.{flat_map};
 ghost use Rattle.wdf_plan.specs.Fitting.{IsFitNode};
 ghost use Rattle.wdf_refusals.specs.Numbered.{Every};
@@ -16,6 +16,7 @@ use wdf_blocks::placed::Placed;
 use wdf_blocks::variables::{Variables, entered};
 use wdf_blocks::walk::Lines;
 use wdf_refusals::names::Names;
+use wdf_refusals::unknown::window;
 use wdf_scene::{NumberedLine, Scene, SceneExpr};
 
 fn add_node(
@@ -45,15 +46,6 @@ fn add_nodes(
         add_node(names, variables, node, nodes)?;
     }
     Ok(())
-}
-
-// The items from one place to another, as far as there are items.
-fn window(all: &[SceneExpr], from: u64, to: u64) -> &[SceneExpr]
-    ensures { result.now ≡ take (to - from) (drop from all.now) }
-{
-    let start = (from as usize).min(all.len());
-    let end = (to as usize).max(start).min(all.len());
-    &all[start..end]
 }
 
 fn add_line(

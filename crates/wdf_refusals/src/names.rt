@@ -208,6 +208,12 @@ pub fn is_wanted(declaration: &Declaration, name: &Name, wanted: Wanted) -> bool
     declaration.name == *name && declaration.suits(wanted)
 }
 
+fn rest_from(declarations: &[Declaration], from: usize) -> &[Declaration]
+    ensures { result.now ≡ drop from declarations.now }
+{
+    &declarations[from.min(declarations.len())..]
+}
+
 fn found_from(
     declarations: &[Declaration],
     from: usize,
@@ -216,9 +222,8 @@ fn found_from(
 ) -> Option<Declaration>
     ensures { result ≡ find (spec.is_wanted name.now wanted) (drop from declarations.now) }
 {
-    declarations
+    rest_from(declarations, from)
         .iter()
-        .skip(from)
         .copied()
         .find(|declaration| is_wanted(declaration, name, wanted))
 }

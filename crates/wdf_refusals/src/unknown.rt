@@ -95,20 +95,21 @@ fn unknown_node(names: &Names, variables: &Variables, node: &SceneExpr) -> bool
     }
 }
 
-fn any_unknown(
-    names: &Names,
-    variables: &Variables,
-    nodes: &[SceneExpr],
-    from: u64,
-    to: u64,
-) -> bool
-    ensures { result ≡ list_any (rows.unknown_node names.now variables.now) (take (to - from) (drop from nodes.now)) }
+fn any_unknown(names: &Names, variables: &Variables, nodes: &[SceneExpr]) -> bool
+    ensures { result ≡ list_any (rows.unknown_node names.now variables.now) nodes.now }
 {
     nodes
         .iter()
-        .skip(from as usize)
-        .take(to.saturating_sub(from) as usize)
         .any(|node| unknown_node(names, variables, node))
+}
+
+/// The nodes from one place to another, as far as there are nodes.
+pub fn window(all: &[SceneExpr], from: u64, to: u64) -> &[SceneExpr]
+    ensures { result.now ≡ take (to - from) (drop from all.now) }
+{
+    let start = (from as usize).min(all.len());
+    let end = (to as usize).max(start).min(all.len());
+    &all[start..end]
 }
 
 /// Whether a name on the line stands for nothing there: it is no variable of the callback and no
@@ -122,5 +123,5 @@ pub fn unknown_name(scene: &Scene, names: &Names, variables: &Variables, placed:
     }
     let from = placed.counts.nodes;
     let to = nodes_end(from, &placed.form);
-    any_unknown(names, variables, scene.exprs.as_slice(), from, to)
+    any_unknown(names, variables, window(scene.exprs.as_slice(), from, to))
 }
