@@ -32,6 +32,8 @@ import time
 ROOT = os.path.dirname(os.path.dirname(os.path.abspath(__file__)))
 PROGRAM = sys.argv[1] if len(sys.argv) > 1 else "kmdfsim"
 OUT = os.path.join(ROOT, "crates", PROGRAM, "out")
+# The kit's `rt`, with each checksum made once.
+RT_ONCE = [sys.executable, os.path.join(ROOT, "tools", "rt_once.py")]
 LOG = os.path.join(OUT, "proving.log")
 # Folders of a crate that the program isn't made from: what was built, and wrong bodies.
 LEFT_OUT = ("out", "must-fail", "wrong")
@@ -271,7 +273,7 @@ def prove(room, held, needs):
     with open(LOG, "w", encoding="utf-8") as log:
         # A session of its own, so that an interrupt at the terminal comes here alone.
         given = {"cwd": room, "stdin": subprocess.DEVNULL, "stdout": log, "stderr": subprocess.STDOUT}
-        run = subprocess.Popen([kit(), "ci"], start_new_session=True, pass_fds=[held], **given)
+        run = subprocess.Popen([*RT_ONCE, "ci"], start_new_session=True, pass_fds=[held], **given)
     try:
         while True:
             status = run.poll()

@@ -18,8 +18,9 @@ import time
 ROOT = os.path.dirname(os.path.dirname(os.path.abspath(__file__)))
 CRATES = "# the crates\nlow:\nmid: low std_like\nlaw: low\nkmdfsim: mid\n"
 # A made `rt ci`: notes that it was called, makes out/ of each crate, and says what the kit says. It proves no crate with a
-# file `src/wrong.rt`, and waits in one with a file `src/slow.rt`.
+# file `src/wrong.rt`, and waits in one with a file `src/slow.rt`. `rt_once.py` takes it for a kit that makes each checksum once.
 RT = """#!/bin/sh
+# def stamp_once(
 [ "$*" = version ] && { echo "a kit"; exit; }
 [ "$*" = ci ] || exit 9
 [ -d .git ] && [ -f HANDLES ] && [ ! -e crates/low/must-fail ] || { echo "rt: no such repository"; exit 2; }
@@ -54,7 +55,7 @@ class Tree:
         self.put("bin/rt", RT)
         os.chmod(os.path.join(top, "bin/rt"), 0o755)
         os.makedirs(os.path.join(top, "tools"))
-        for name in ("kmdfsim", "tools/prove_program.py"):
+        for name in ("kmdfsim", "tools/prove_program.py", "tools/rt_once.py"):
             shutil.copy(os.path.join(ROOT, name), os.path.join(top, name))
 
     def put(self, name, text):

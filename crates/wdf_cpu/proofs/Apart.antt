@@ -1,5 +1,5 @@
 -- Frames in slots: what the frames by number are, and that slots stay apart, after a slot was written.
-use Rattle.std.proofs.Common.{◌≡◌, ◌≢◌, ◌⊎◌, inl, inr, ℕ, zero, suc, ◌+◌, ◌-◌, ◌<◌, ◌≤◌, nat_lt, true, List, [], ◌∷◌, Option, Some, None, is_some, count_by, map, length, refl, ap, sym, ◌∙◌, arith, add-one, slice_set, slice_index_or}
+use Rattle.std.proofs.Common.{◌≡◌, ◌≢◌, ◌⊎◌, inl, inr, ℕ, zero, suc, ◌+◌, ◌-◌, ◌<◌, ◌≤◌, nat_lt, true, List, [], ◌∷◌, Option, Some, None, is_some, count_by, map, length, refl, ap, sym, ◌∙◌, arith, add-one, slice_set, slice_index_or, vec_capacity}
 use Rattle.std.specs.Option.{option_map, IsSome}
 use Rattle.std.proofs.lemmas.Bool.{cases_eq, cases_lt}
 use Rattle.std.proofs.lemmas.Bool.Decides.{nat_tests}
@@ -13,7 +13,8 @@ use Rattle.wdf_model.specs.parts.Cpus.{no_frame}
 use Rattle.wdf_model.proofs.Maps.{as_long, entry_past, entry_put_other, entry_put_same, put_short, put_within, set_as_it_was}
 use Rattle.wdf_model.proofs.Counts.{count_cons}
 use Rattle.wdf_maps.proofs.Counting.{count_put}
-use Rattle.wdf_cpu.specs.InSlots.{AreApart, read_slot, running_in}
+use Rattle.wdf_cpu.specs.InSlots.{AreApart, HaveSlots, read_slot, running_in}
+use Rattle.wdf_cpu.specs.declared.slots.FrameSlots.TheInside.{Inside}
 use Rattle.wdf_cpu.specs.declared.slots.Slot.{Slot}
 
 -- ---- lists by number, read through the slots
@@ -219,3 +220,35 @@ module _ (l : List ℕ) (slots : Slab Slot) (f : ℕ) (h : AreApart l slots) (no
 
   pub frames_without : map (read_slot slots) (put 0 l f 0) ≡ put no_frame (map (read_slot slots) l) f no_frame
   frames_without = written (read_slot slots) (read_slot slots) l f 0 refl refl (λ i n. refl)
+
+-- ---- the slots by the fields, after one was written
+
+module _ (a : Inside) (h : HaveSlots a) (f after : ℕ) (is : after ≡ entry 0 a.slot_of.items f) (n : after ≢ 0) where
+  -- the slot of a number that has one
+  pub its_slot : IsSome (get a.slots (after - 1))
+  its_slot = slot_there a.slot_of.items a.slots f after h.apart is n
+
+  -- its frame is another
+  pub slots_in_place : (r : Slot) (running : Running) → get a.slots (after - 1) ≡ Some r
+      → HaveSlots (record a { slots = with_value a.slots (after - 1) (record { number = r.number; running = running }) })
+  slots_in_place r running here = record {
+    room = h.room;
+    slots_room = h.slots_room;
+    few = h.few;
+    blank = h.blank;
+    apart = apart_in_place a.slot_of.items a.slots f after r running h.apart is n here;
+  }
+
+-- a number has another slot, or none
+pub slots_put : (a b : Inside) (f slot : ℕ) → HaveSlots a → f < FRAMES → b.slot_of.items ≡ put 0 a.slot_of.items f slot
+    → vec_capacity a.slot_of ≤ vec_capacity b.slot_of → b.slots.capacity ≡ a.slots.capacity → b.blank ≡ a.blank
+    → AreApart (put 0 a.slot_of.items f slot) b.slots → HaveSlots b
+slots_put a b f slot h within entries room same blank apart =
+    let before = h.room in
+    record {
+      room = omega arith;
+      slots_room = rw same h.slots_room;
+      few = rw entries (put_short 0 a.slot_of.items f slot FRAMES within h.few);
+      blank = blank ∙ h.blank;
+      apart = rw entries apart;
+    }

@@ -1,6 +1,7 @@
 -- What is kept beside the state, after each act.
-use Rattle.std.proofs.Common.{◌≡◌, ℕ, zero, suc, ◌+◌, ◌^◌, ◌==◌, ◌<◌, ◌≤◌, max, fold, drop, filter, not, subst, Bool, true, false, List, [], ◌∷◌, ◌++◌, replicate, Option, Some, None, length, count_by, refl, ap, sym, ◌∙◌, arith}
+use Rattle.std.proofs.Common.{if◌then◌else◌, ◌≡◌, ℕ, zero, suc, ◌+◌, ◌^◌, ◌==◌, ◌<◌, ◌≤◌, max, fold, drop, filter, not, subst, Bool, true, false, List, [], ◌∷◌, ◌++◌, replicate, Option, Some, None, length, count_by, refl, ap, sym, ◌∙◌, arith}
 use Rattle.std.specs.List.{flat_map}
+use Rattle.std.specs.Option.{option_map}
 use Rattle.std.proofs.lemmas.List.Sums.{count_by-le-length}
 use Rattle.wdf_base.specs.declared.frame.Frame.{Frame}
 use Rattle.wdf_base.specs.declared.ids.ObjectId.{ObjectId}
@@ -11,17 +12,19 @@ use Rattle.wdf_model.specs.declared.entries.HeldLevel.{HeldLevel}
 use Rattle.wdf_model.specs.parts.Cpus.{Cpus, all_frames, frame_of, less_one, levels_of, levels_without, no_frame, opening_cpus, parked_with, running, stack_of, top, without_frame}
 use Rattle.wdf_model.specs.parts.Cpus as cpus
 use Rattle.wdf_model.proofs.Maps.{put_within, set_as_it_was}
-use Rattle.wdf_maps.specs.Counts.{count_at}
+use Rattle.wdf_maps.specs.Counts.{count_at, moved_count}
 use Rattle.wdf_maps.proofs.Counting.{room_for_one}
 use Rattle.wdf_cpu.specs.Keys.{CountsFrames, Swapped, object_key, wait_key}
 use Rattle.wdf_cpu.specs.Kept.{IsKept, IsSound, cpus_in}
 use Rattle.wdf_cpu.specs.declared.cpus.Cpus.TheInside.{Inside}
 use Rattle.wdf_cpu.specs.Levels.{held_by}
+use Rattle.wdf_cpu.specs.Spending.{IsMoved}
 use Rattle.wdf_cpu.proofs.Live.{few_frames, live_is_off, live_is_on, live_park, live_pop, live_push, live_unpark, parked_once, top_goes_off}
 use Rattle.wdf_cpu.proofs.Numbers.{absent_from}
 use Rattle.wdf_cpu.proofs.Passing.{passing_change, passing_change_off, passing_park, passing_pop, passing_push, passing_unpark}
 use Rattle.wdf_cpu.proofs.Peaks.{peaks_change, peaks_lower, peaks_pop, peaks_push, peaks_raise}
-use Rattle.wdf_cpu.proofs.Swapping.{counts_follow}
+use Rattle.wdf_cpu.proofs.Swapping.{counts_follow, swapped_by}
+use Rattle.wdf_cpu.proofs.Ticks.{few_ticks, spending_change_by, until_there}
 use Rattle.wdf_model.proofs.FrameCounts.{on, seen}
 
 -- ---- what is counted
@@ -57,6 +60,10 @@ on_counted a f left h is one = live_is_counted object_key (cpus_in a) a.on f lef
 pub wait_counted : (a : Inside) (f : ℕ) (left : Option ℕ) → IsSound a → left ≡ wait_key (frame_of (cpus_in a) f) → on (cpus_in a) f ≡ 1
     → (id : ℕ) → id < OBJECTS → same_id left id ≡ true → 1 ≤ entry 0 a.waits id
 wait_counted a f left h is one = live_is_counted wait_key (cpus_in a) a.waits f left is one h.kept.waits
+
+-- the ticks until which frames spend are no more than there is room for
+pub untils_fit : (a : Inside) → IsSound a → length a.untils ≤ FRAMES
+untils_fit a h = few_ticks (cpus_in a) a.untils FRAMES h.untils (few_frames (cpus_in a) a.live.items h.kept.live)
 
 -- ---- the acts
 
@@ -200,3 +207,38 @@ kept_unpark C flags levels counts awaited cpu f is h =
       on = record { counted = λ id within. h.on.counted id within ∙ sym (passing_unpark (λ fr. same_id (object_key fr) id) C cpu f one) };
       waits = record { counted = λ id within. h.waits.counted id within ∙ sym (passing_unpark (λ fr. same_id (wait_key fr) id) C cpu f one) };
     }
+
+-- ---- a frame that is there changes
+
+module _ (a : Inside) (h : IsSound a) (f : ℕ) (live : Bool) (is : live ≡ entry false a.live.items f) where
+  live_once : live ≡ true → on (cpus_in a) f ≡ 1
+  live_once e = live_is_on (cpus_in a) a.live.items f h.kept.live (sym is ∙ e)
+
+  -- the tick of a live frame is there
+  pub live_until : (until : ℕ) → until ≡ (frame_of (cpus_in a) f).until → live ≡ true → 0 < until → 1 ≤ count_by (λ u. u == until) a.untils
+  live_until until same e = until_there (cpus_in a) a.untils f until same (live_once e) h.untils
+
+  -- an object that a live frame is on counts it
+  pub live_on : (e : live ≡ true) (id : ℕ) → id < OBJECTS → same_id (object_key (frame_of (cpus_in a) f)) id ≡ true → 1 ≤ entry 0 a.on id
+  live_on e = on_counted a f (object_key (frame_of (cpus_in a) f)) h refl (live_once e)
+
+  -- where it is live, it is counted as it is from now on
+  pub sound_change : (frame : Frame) (from to : Option ObjectId) (until : ℕ) (counts awaited ticks : List ℕ)
+      → (live ≡ true → Swapped (object_key (frame_of (cpus_in a) f)) (object_key frame) a.on counts) → (live ≡ false → counts ≡ a.on)
+      → option_map (λ (o : ObjectId). o.0) from ≡ wait_key (frame_of (cpus_in a) f) → option_map (λ (o : ObjectId). o.0) to ≡ wait_key frame
+      → awaited ≡ (if live then moved_count a.waits from to else a.waits)
+      → until ≡ (frame_of (cpus_in a) f).until → (live ≡ true → IsMoved until frame.until a.untils ticks) → (live ≡ false → ticks ≡ a.untils)
+      → IsSound (record a { frames = (cpus.change (cpus_in a) f frame).frames; on = counts; waits = awaited; untils = ticks })
+  sound_change frame from to until counts awaited ticks ons same was now moved spent moves other = record {
+    live_room = h.live_room;
+    peaks_room = h.peaks_room;
+    parked_room = h.parked_room;
+    kept = kept_change_by (cpus_in a) a.live.items a.peaks.items a.on a.waits f frame counts awaited live is ons same
+        (λ e. swapped_by a.waits awaited from to _ _ (rw e at moved) was now (wait_counted a f _ h refl (live_once e)))
+        (λ e. rw e at moved)
+        h.kept;
+    untils = spending_change_by (cpus_in a) a.untils ticks f frame live live_once
+        (λ e. live_is_off (cpus_in a) a.live.items f h.kept.live (sym is ∙ e))
+        (λ e. subst (λ n. IsMoved n frame.until a.untils ticks) spent (moves e))
+        other h.untils;
+  }

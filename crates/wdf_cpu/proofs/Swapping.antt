@@ -11,8 +11,8 @@ use Rattle.wdf_model.specs.parts.Cpus.{Cpus}
 use Rattle.wdf_model.specs.rules.Steps.{changed}
 use Rattle.wdf_maps.specs.Counts.{is_at, moved_count}
 use Rattle.wdf_maps.proofs.Counting.{at_moved}
-use Rattle.wdf_cpu.specs.Going.{gone}
-use Rattle.wdf_cpu.specs.declared.going.Going.{Going}
+use Rattle.wdf_cpu.specs.FrameUpdate.{gone}
+use Rattle.wdf_cpu.specs.declared.frame_update.FrameUpdate.{FrameUpdate}
 use Rattle.wdf_cpu.specs.Keys.{CountsFrames, Swapped, keyed, object_key}
 
 -- what is of an id
@@ -44,8 +44,8 @@ swapped_by counts counts' from to left came e f t some =
     rw (e, sym f, sym t) (moved_swaps counts from to (λ id h s. some id h (ap (λ k. same_id k id) (sym f) ∙ s)))
 
 -- a frame that goes on stays on its object
-pub gone_object : (going : Going) (frame : Frame) → object_key (gone going frame) ≡ object_key frame
-gone_object going frame = by_change going.change
+pub gone_object : (update : FrameUpdate) (frame : Frame) → object_key (gone update frame) ≡ object_key frame
+gone_object update frame = by_change update.change
   where
     by_change : (c : Change) → object_key (changed frame c) ≡ object_key frame
     by_change (change.Assign variable v) = refl

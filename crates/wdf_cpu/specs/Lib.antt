@@ -4,7 +4,7 @@ pub mod LevelCounts
 pub mod FrameTests
 pub mod Spending
 pub mod InUntils
-pub mod Going
+pub mod FrameUpdate
 pub mod InSlots
 pub mod Kept
 pub mod Occupied

@@ -3,10 +3,10 @@ ghost use Rattle.std.specs.Prelude.{◌≡◌, ◌+◌, ◌^◌, ◌<◌, if◌t
 ghost use Rattle.wdf_model.specs.Tables.{contains};
 ghost use Rattle.wdf_model.specs.parts.Cpus as cpus;
 ghost use Rattle.wdf_maps.specs.Counts.{count_at, moved_count};
-ghost use Rattle.wdf_cpu.specs.Going.{gone};
+ghost use Rattle.wdf_cpu.specs.FrameUpdate.{gone};
 
 use crate::cpus::{Cpus, object_key, wait_key};
-use crate::going::{Going, awaits};
+use crate::frame_update::{FrameUpdate, awaits};
 use crate::stack::{pop_from, push_on};
 use crate::untils::move_until_if;
 use wdf_base::{Cpu, Frame, FrameId, Irql, ObjectId};
@@ -50,18 +50,18 @@ impl Cpus {
     }
 
     /// A frame goes on in its place.
-    pub fn go_on(&mut self, f: FrameId, going: &Going)
+    pub fn go_on(&mut self, f: FrameId, update: &FrameUpdate)
         requires there { f.0 < length self.old.frames }
-        ensures done { self.new ≡ cpus.change self.old f.0 (gone going.now (cpus.frame_of self.old f.0)) }
+        ensures done { self.new ≡ cpus.change self.old f.0 (gone update.now (cpus.frame_of self.old f.0)) }
         ensures frames { length self.new.frames ≡ length self.old.frames }
     {
         let live = entry_at(&self.live, false, f.0);
         let now = &self.frames.running(f.0).frame;
         let awaited = wait_key(now);
         let until = now.until;
-        moves_if(&mut self.waits, live, awaited, awaits(going));
-        move_until_if(&mut self.untils, live, until, going.until);
-        self.frames.go_on(f.0, going);
+        moves_if(&mut self.waits, live, awaited, awaits(update));
+        move_until_if(&mut self.untils, live, until, update.until);
+        self.frames.go_on(f.0, update);
     }
 
     /// A frame holds a level more.

@@ -6,14 +6,14 @@
 //!   frame is that of its event, and few frames are there at a time. A list of all numbers would have an entry of 504
 //!   bytes for each event. A slot names its number, so two numbers never share one. A frame that ends gives its slot
 //!   back. The room of all is taken before the run; memory that is not touched costs nothing.
-//! - **How does a frame go on?** In its slot: a [`Going`] says what changes, and the rest isn't copied.
+//! - **How does a frame go on?** In its slot: a [`FrameUpdate`] says what changes, and the rest isn't copied.
 #![tactic(auto)]
 
 mod acts;
 mod cpus;
 mod frame_test;
+mod frame_update;
 mod frames;
-mod going;
 mod levels;
 mod order;
 mod readers;
@@ -22,4 +22,4 @@ mod stack;
 mod untils;
 
 pub use cpus::Cpus;
-pub use going::Going;
+pub use frame_update::FrameUpdate;

@@ -3,10 +3,10 @@ ghost use Rattle.std.specs.Prelude.{◌≡◌, ◌<◌, ◌≤◌, [], length, I
 ghost use Rattle.wdf_model.specs.Tables.{change_at, entry, put};
 ghost use Rattle.wdf_model.specs.declared.entries.Running.{Running};
 ghost use Rattle.wdf_model.specs.parts.Cpus.{no_frame};
-ghost use Rattle.wdf_cpu.specs.Going.{gone};
+ghost use Rattle.wdf_cpu.specs.FrameUpdate.{gone};
 
 use crate::cpus::NO_FRAME;
-use crate::going::{Going, goes};
+use crate::frame_update::{FrameUpdate, goes};
 use slab::Slab;
 use std::alloc::Global;
 use std::marker::Model;
@@ -77,7 +77,8 @@ impl FrameSlots {
 
     /// The entry of a number; a blank one where none is there.
     pub(crate) fn running(&self, f: u32) -> &Running
-        ensures { result.now ≡ entry no_frame self.now f }
+        ensures value { result.now ≡ entry no_frame self.now f }
+        ensures few { length self.now ≤ FRAMES }
     {
         let after = entry_at(&self.slot_of, 0, f);
         if after == 0 {
@@ -118,16 +119,16 @@ impl FrameSlots {
     }
 
     /// A frame goes on where it is.
-    pub(crate) fn go_on(&mut self, f: u32, going: &Going)
+    pub(crate) fn go_on(&mut self, f: u32, update: &FrameUpdate)
         requires { f < length self.old }
-        ensures { self.new ≡ change_at no_frame self.old f (λ (r : Running). record r { frame = gone going.now r.frame }) }
+        ensures { self.new ≡ change_at no_frame self.old f (λ (r : Running). record r { frame = gone update.now r.frame }) }
     {
         let after = entry_at(&self.slot_of, 0, f);
         if after == 0 {
-            self.go_on_blank(f, going);
+            self.go_on_blank(f, update);
             return;
         }
-        goes(&mut self.slots[after - 1].running.frame, going);
+        goes(&mut self.slots[after - 1].running.frame, update);
     }
 
     /// Writes what a frame is; its level stays.
@@ -135,19 +136,17 @@ impl FrameSlots {
         requires { f < length self.old }
         ensures { self.new ≡ change_at no_frame self.old f (λ (r : Running). record r { frame = frame }) }
     {
-        // No number is beyond the room.
-        let _small = self.len();
         let level = self.running(f).level;
         self.put(f, Running { frame, level });
     }
 
     /// What has no slot goes on from the blank entry.
-    fn go_on_blank(&mut self, f: u32, going: &Going)
+    fn go_on_blank(&mut self, f: u32, update: &FrameUpdate)
         requires { f < FRAMES }
-        ensures { self.new ≡ put no_frame self.old f (record no_frame { frame = gone going.now no_frame.frame }) }
+        ensures { self.new ≡ put no_frame self.old f (record no_frame { frame = gone update.now no_frame.frame }) }
     {
         let mut running = NO_FRAME;
-        goes(&mut running.frame, going);
+        goes(&mut running.frame, update);
         self.put(f, running);
     }
 }

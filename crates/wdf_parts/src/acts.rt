@@ -8,13 +8,13 @@ ghost use Rattle.wdf_model.specs.parts.Targets.{sending_of, takes_more};
 ghost use Rattle.wdf_model.specs.rules.Deeds as deeds;
 ghost use Rattle.wdf_model.specs.Tables.{change_at, entry};
 ghost use Rattle.wdf_model.specs.parts.Cpus.{frame_of};
-ghost use Rattle.wdf_cpu.specs.Going.{gone};
+ghost use Rattle.wdf_cpu.specs.FrameUpdate.{gone};
 ghost use Rattle.wdf_model.specs.rules.Room.{AreDoable, IsDoable, MayGiveUp};
 
 use crate::list::Deeds;
 use crate::parts::Parts;
 use wdf_base::{Agent, Frame, FrameId, ObjectId, Place, Status};
-use wdf_cpu::Going;
+use wdf_cpu::FrameUpdate;
 use wdf_maps::{entry_at, put_at};
 use wdf_model::Deed;
 use wdf_plan_index::IndexedPlan;
@@ -148,12 +148,12 @@ impl<A: Agent> Parts<A> {
     }
 
     /// A frame goes on in its place.
-    pub fn go_on(&mut self, plan: &IndexedPlan, number: FrameId, going: &Going)
+    pub fn go_on(&mut self, plan: &IndexedPlan, number: FrameId, update: &FrameUpdate)
         requires { number.0 < length self.old.cpus.frames }
-        ensures { self.new ≡ deeds.do_deed plan.now (Deed.GoOn number (gone going.now (frame_of self.old.cpus number.0))) self.old }
+        ensures { self.new ≡ deeds.do_deed plan.now (Deed.GoOn number (gone update.now (frame_of self.old.cpus number.0))) self.old }
     {
         let _ = plan;
-        self.cpus.go_on(number, going);
+        self.cpus.go_on(number, update);
     }
 
     /// A frame is now this one.

@@ -1,18 +1,18 @@
 //! How a frame goes on.
 ghost use Rattle.std.specs.Prelude.{◌≡◌, ◌+◌, ◌<◌, ◌^◌};
 ghost use Rattle.wdf_model.specs.rules.Steps as steps;
-ghost use Rattle.wdf_cpu.specs.Going.{gone};
+ghost use Rattle.wdf_cpu.specs.FrameUpdate.{gone};
 
 use wdf_base::{Act, Call, Change, Frame, Intent, Pending, Statement, Value};
-use wdf_cpu::Going;
+use wdf_cpu::FrameUpdate;
 use wdf_plan_index::IndexedPlan;
 use wdf_script::statement_at;
 
 /// A frame that is at a statement, and as it was otherwise.
-fn placed(frame: &Frame, change: Change, at: u32) -> Going
+fn placed(frame: &Frame, change: Change, at: u32) -> FrameUpdate
     ensures { gone result frame.now ≡ record (steps.changed frame.now change) { at = at } }
 {
-    Going {
+    FrameUpdate {
         change,
         at,
         until: frame.until,
@@ -31,7 +31,7 @@ fn next_place(frame: &Frame, statement: Option<Statement>) -> u32
 }
 
 /// A frame that goes on.
-pub(crate) fn goes_on(plan: &IndexedPlan, frame: &Frame) -> Going
+pub(crate) fn goes_on(plan: &IndexedPlan, frame: &Frame) -> FrameUpdate
     ensures { gone result frame.now ≡ steps.goes_on plan.now frame.now }
 {
     let at = next_place(frame, statement_at(plan.plan(), frame));
@@ -60,11 +60,11 @@ fn answer_of(variable: Option<u8>, value: Value) -> Change
 }
 
 /// A frame whose statement is answered goes on.
-pub(crate) fn answered(plan: &IndexedPlan, frame: &Frame, value: Value) -> Going
+pub(crate) fn answered(plan: &IndexedPlan, frame: &Frame, value: Value) -> FrameUpdate
     ensures { gone result frame.now ≡ steps.answered plan.now frame.now value }
 {
     let statement = statement_at(plan.plan(), frame);
-    Going {
+    FrameUpdate {
         change: answer_of(result_of(statement), value),
         at: next_place(frame, statement),
         until: frame.until,
@@ -73,7 +73,7 @@ pub(crate) fn answered(plan: &IndexedPlan, frame: &Frame, value: Value) -> Going
 }
 
 /// A step inside a frame.
-pub(crate) fn stepped(frame: &Frame, intent: &Intent) -> Going
+pub(crate) fn stepped(frame: &Frame, intent: &Intent) -> FrameUpdate
     ensures { gone result frame.now ≡ steps.stepped frame.now intent.now }
 {
     match intent {
@@ -83,21 +83,21 @@ pub(crate) fn stepped(frame: &Frame, intent: &Intent) -> Going
 }
 
 /// A frame that goes on once so many ticks have passed.
-pub(crate) fn spending(plan: &IndexedPlan, frame: &Frame, now: u64, ticks: u64) -> Going
+pub(crate) fn spending(plan: &IndexedPlan, frame: &Frame, now: u64, ticks: u64) -> FrameUpdate
     requires { now + ticks < 2 ^ 64 }
     ensures { gone result frame.now ≡ record (steps.goes_on plan.now frame.now) { until = now + ticks } }
 {
-    Going {
+    FrameUpdate {
         until: now + ticks,
         ..goes_on(plan, frame)
     }
 }
 
 /// A frame that waits for a call.
-pub(crate) fn waiting(frame: &Frame, call: &Call, answer: Value) -> Going
+pub(crate) fn waiting(frame: &Frame, call: &Call, answer: Value) -> FrameUpdate
     ensures { gone result frame.now ≡ steps.waiting frame.now call.now answer }
 {
-    Going {
+    FrameUpdate {
         pending: Some(Pending {
             call: *call,
             answer,

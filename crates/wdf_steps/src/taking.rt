@@ -7,14 +7,14 @@ ghost use Rattle.wdf_model.specs.rules.Room.{AreDoable};
 ghost use Rattle.wdf_model.specs.rules.Script as script;
 ghost use Rattle.wdf_model.specs.rules.Steps as steps;
 ghost use Rattle.wdf_model.specs.parts.Cpus.{frame_of};
-ghost use Rattle.wdf_cpu.specs.Going.{gone};
+ghost use Rattle.wdf_cpu.specs.FrameUpdate.{gone};
 ghost use Rattle.wdf_steps.specs.Clock.{FitsClock};
 ghost use Rattle.wdf_steps.specs.Moves.{goes_on_with, spends_on};
 
 use crate::frames::{answered, goes_on, spending, stepped, waiting};
 use wdf_base::{Agent, Call, Cpu, Event, Frame, FrameId, Value};
 use wdf_calls::{outcome, second_deeds};
-use wdf_cpu::Going;
+use wdf_cpu::FrameUpdate;
 use wdf_model::Deed;
 use wdf_parts::{Deeds, Parts};
 use wdf_plan_index::IndexedPlan;
@@ -23,11 +23,11 @@ use wdf_script::next;
 use wdf_starts::{end_deeds, stage_deeds, start_deeds};
 
 /// A frame goes on in its place.
-fn go_on<A: Agent>(plan: &IndexedPlan, parts: &mut Parts<A>, number: FrameId, going: &Going)
-    requires { AreDoable plan.now (Deed.GoOn number (gone going.now (frame_of parts.old.cpus number.0)) ∷ []) parts.old }
-    ensures { parts.new ≡ do_deeds plan.now (Deed.GoOn number (gone going.now (frame_of parts.old.cpus number.0)) ∷ []) parts.old }
+fn go_on<A: Agent>(plan: &IndexedPlan, parts: &mut Parts<A>, number: FrameId, update: &FrameUpdate)
+    requires { AreDoable plan.now (Deed.GoOn number (gone update.now (frame_of parts.old.cpus number.0)) ∷ []) parts.old }
+    ensures { parts.new ≡ do_deeds plan.now (Deed.GoOn number (gone update.now (frame_of parts.old.cpus number.0)) ∷ []) parts.old }
 {
-    parts.go_on(plan, number, going);
+    parts.go_on(plan, number, update);
 }
 
 /// A frame is now this one.

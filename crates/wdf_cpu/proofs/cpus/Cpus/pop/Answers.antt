@@ -2,14 +2,13 @@
 use Rattle.std.proofs.Common.{◌≡◌, Some, None, refl, arith}
 use Rattle.wdf_base.specs.declared.ids.ObjectId.{ObjectId}
 use Rattle.std.specs.Option.{option_map}
-use Rattle.wdf_model.specs.declared.room.TheConstants.{FRAMES}
 use Rattle.wdf_model.specs.parts.Cpus.{frame_of, top}
 use Rattle.wdf_cpu.specs.Keys.{object_key, wait_key}
 use Rattle.wdf_cpu.specs.Kept.{cpus_in}
-use Rattle.wdf_cpu.proofs.Keeping.{kept_pop, on_counted, wait_counted}
-use Rattle.wdf_cpu.proofs.Live.{few_frames, top_goes_off, top_is_on, top_within}
+use Rattle.wdf_cpu.proofs.Keeping.{kept_pop, on_counted, untils_fit, wait_counted}
+use Rattle.wdf_cpu.proofs.Live.{top_goes_off, top_is_on, top_within}
 use Rattle.wdf_cpu.proofs.Swapping.{swapped_by}
-use Rattle.wdf_cpu.proofs.Ticks.{few_ticks, spending_popped, until_there}
+use Rattle.wdf_cpu.proofs.Ticks.{spending_popped, until_there}
 use Rattle.wdf_cpu.proofs.cpus.Cpus.pop.Goals as goal
 
 pub put_at-requires : goal.put_at-requires
@@ -30,14 +29,14 @@ remove-requires c =
     top_within (cpus_in c.self.inside) c.self.inside.live.items c.args.cpu.0 c.unwrap.result is_top c.self.invariant.kept.live
 
 pub moves-requires-3-clause-room : goal.moves-requires-3-clause-room
-moves-requires-3-clause-room c = few_ticks (cpus_in c.self.inside) c.self.inside.untils FRAMES c.self.invariant.untils (few_frames (cpus_in c.self.inside) c.self.inside.live.items c.self.invariant.kept.live)
+moves-requires-3-clause-room c = untils_fit c.self.inside c.self.invariant
 
 pub moves-requires-3-clause-there : goal.moves-requires-3-clause-there
 moves-requires-3-clause-there c =
     let a = c.self.inside in
     let is_top : top (cpus_in a) c.args.cpu.0 ≡ Some c.unwrap.result = cc in
     let one = top_is_on (cpus_in a) a.live.items c.args.cpu.0 c.unwrap.result is_top c.self.invariant.kept.live in
-    rw c.running.ensures (until_there (cpus_in a) a.untils c.unwrap.result (frame_of (cpus_in a) c.unwrap.result).until refl one c.self.invariant.untils)
+    rw c.running.ensures.value (until_there (cpus_in a) a.untils c.unwrap.result (frame_of (cpus_in a) c.unwrap.result).until refl one c.self.invariant.untils)
 
 pub forget-requires : goal.forget-requires
 forget-requires c =
@@ -50,8 +49,8 @@ invariant_of-self c =
     let h = c.self.invariant in
     let is_top : top (cpus_in a) c.args.cpu.0 ≡ Some c.unwrap.result = cc in
     let one = top_is_on (cpus_in a) a.live.items c.args.cpu.0 c.unwrap.result is_top h.kept.live in
-    let object : option_map (λ (o : ObjectId). o.0) c.object_key-object.result ≡ object_key (frame_of (cpus_in a) c.unwrap.result) = rw c.running.ensures at c.object_key-object.ensures in
-    let awaited : option_map (λ (o : ObjectId). o.0) c.wait_key-awaited.result ≡ wait_key (frame_of (cpus_in a) c.unwrap.result) = rw c.running.ensures at c.wait_key-awaited.ensures in
+    let object : option_map (λ (o : ObjectId). o.0) c.object_key-object.result ≡ object_key (frame_of (cpus_in a) c.unwrap.result) = rw c.running.ensures.value at c.object_key-object.ensures in
+    let awaited : option_map (λ (o : ObjectId). o.0) c.wait_key-awaited.result ≡ wait_key (frame_of (cpus_in a) c.unwrap.result) = rw c.running.ensures.value at c.wait_key-awaited.ensures in
     record {
       live_room = omega arith;
       peaks_room = omega arith;
@@ -62,5 +61,5 @@ invariant_of-self c =
           (swapped_by a.waits c.moves-2.new.self c.wait_key-awaited.result None (wait_key (frame_of (cpus_in a) c.unwrap.result)) None c.moves-2.ensures awaited refl (wait_counted a c.unwrap.result _ h refl one))
           h.kept);
       untils = rw (c.remove.ensures, c.pop_from.ensures.rest, c.forget.ensures)
-          (spending_popped (cpus_in a) a.untils c.moves-3.new.self c.args.cpu.0 c.unwrap.result is_top (top_goes_off (cpus_in a) a.live.items c.args.cpu.0 c.unwrap.result is_top h.kept.live) (rw c.running.ensures at c.moves-3.ensures) h.untils);
+          (spending_popped (cpus_in a) a.untils c.moves-3.new.self c.args.cpu.0 c.unwrap.result is_top (top_goes_off (cpus_in a) a.live.items c.args.cpu.0 c.unwrap.result is_top h.kept.live) (rw c.running.ensures.value at c.moves-3.ensures) h.untils);
     }

@@ -4,12 +4,11 @@ use Rattle.wdf_model.specs.Tables.{contains}
 use Rattle.wdf_model.specs.parts.Cpus.{all_frames}
 use Rattle.wdf_cpu.specs.Keys.{object_key, wait_key}
 use Rattle.wdf_cpu.specs.Kept.{cpus_in}
-use Rattle.wdf_cpu.proofs.Keeping.{kept_push, on_fits, waits_fit}
-use Rattle.wdf_model.specs.declared.room.TheConstants.{FRAMES}
-use Rattle.wdf_cpu.proofs.Live.{few_frames, room_to_push}
+use Rattle.wdf_cpu.proofs.Keeping.{kept_push, on_fits, untils_fit, waits_fit}
+use Rattle.wdf_cpu.proofs.Live.{room_to_push}
 use Rattle.wdf_cpu.proofs.Numbers.{absent_from}
 use Rattle.wdf_cpu.proofs.Swapping.{none_left, swapped_by}
-use Rattle.wdf_cpu.proofs.Ticks.{few_ticks, spending_push}
+use Rattle.wdf_cpu.proofs.Ticks.{spending_push}
 use Rattle.wdf_cpu.proofs.cpus.Cpus.push.Goals as goal
 
 pub moves-requires : goal.moves-requires
@@ -19,7 +18,7 @@ pub moves-requires-2 : goal.moves-requires-2
 moves-requires-2 c = waits_fit c.self.inside c.self.invariant c.wait_key.result
 
 pub moves-requires-3-clause-room : goal.moves-requires-3-clause-room
-moves-requires-3-clause-room c = few_ticks (cpus_in c.self.inside) c.self.inside.untils FRAMES c.self.invariant.untils (few_frames (cpus_in c.self.inside) c.self.inside.live.items c.self.invariant.kept.live)
+moves-requires-3-clause-room c = untils_fit c.self.inside c.self.invariant
 
 pub push_on-requires-clause-room : goal.push_on-requires-clause-room
 push_on-requires-clause-room c =

@@ -1,9 +1,7 @@
 -- A number without a slot gets one, and else its own is written.
 use Rattle.std.proofs.Common.{◌≡◌, ◌+◌, refl, sym, ◌∙◌, arith}
 use Rattle.wdf_model.specs.Tables.{entry}
-use Rattle.wdf_model.specs.declared.room.TheConstants.{FRAMES}
-use Rattle.wdf_model.proofs.Maps.{put_short}
-use Rattle.wdf_cpu.proofs.Apart.{apart_in_place, apart_inserted, frames_in_place, frames_inserted, room_for_one, slot_there}
+use Rattle.wdf_cpu.proofs.Apart.{apart_inserted, frames_in_place, frames_inserted, its_slot, room_for_one, slots_in_place, slots_put}
 use Rattle.wdf_cpu.proofs.slots.FrameSlots.put.Goals as goal
 
 pub insert_reserved-key-requires : goal.insert_reserved-key-requires
@@ -20,15 +18,9 @@ overflow_add-key c = omega arith
 pub invariant_of-self : goal.invariant_of-self
 invariant_of-self c =
     let a = c.self.inside in
-    let h = c.self.invariant in
     let read : c.entry_at-after.result ≡ entry 0 a.slot_of.items c.args.f = rw c.deref.ensures.value at c.entry_at-after.ensures in
-    record {
-      room = omega arith;
-      slots_room = rw c.insert_reserved-key.ensures.capacity h.slots_room;
-      few = rw c.put_at.ensures.entries (put_short 0 a.slot_of.items c.args.f (c.insert_reserved-key.result + 1) FRAMES c.requires h.few);
-      blank = h.blank;
-      apart = rw c.put_at.ensures.entries (apart_inserted a.slot_of.items a.slots c.insert_reserved-key.new.self c.args.f c.insert_reserved-key.result _ h.apart (sym read ∙ c.if-after-eq0.true) c.insert_reserved-key.ensures.was_vacant c.insert_reserved-key.ensures.updates refl c.insert_reserved-key.ensures.len);
-    }
+    slots_put a _ c.args.f (c.insert_reserved-key.result + 1) c.self.invariant c.requires c.put_at.ensures.entries (omega arith) c.insert_reserved-key.ensures.capacity refl
+    (apart_inserted a.slot_of.items a.slots c.insert_reserved-key.new.self c.args.f c.insert_reserved-key.result _ c.self.invariant.apart (sym read ∙ c.if-after-eq0.true) c.insert_reserved-key.ensures.was_vacant c.insert_reserved-key.ensures.updates refl c.insert_reserved-key.ensures.len)
 
 pub returns-then-after-eq0 : goal.returns-then-after-eq0
 returns-then-after-eq0 c =
@@ -39,23 +31,11 @@ returns-then-after-eq0 c =
     (frames_inserted a.slot_of.items a.slots c.insert_reserved-key.new.self c.args.f c.insert_reserved-key.result _ h.apart (sym read ∙ c.if-after-eq0.true) c.insert_reserved-key.ensures.was_vacant c.insert_reserved-key.ensures.updates)
 
 pub index_mut-requires : goal.index_mut-requires
-index_mut-requires c =
-    let a = c.self.inside in
-    let read : c.entry_at-after.result ≡ entry 0 a.slot_of.items c.args.f = rw c.deref.ensures.value at c.entry_at-after.ensures in
-    slot_there a.slot_of.items a.slots c.args.f c.entry_at-after.result c.self.invariant.apart read c.if-after-eq0.false
+index_mut-requires c = its_slot c.self.inside c.self.invariant c.args.f c.entry_at-after.result (rw c.deref.ensures.value at c.entry_at-after.ensures) c.if-after-eq0.false
 
 pub invariant_of-self-else-after-eq0 : goal.invariant_of-self-else-after-eq0
 invariant_of-self-else-after-eq0 c =
-    let a = c.self.inside in
-    let h = c.self.invariant in
-    let read : c.entry_at-after.result ≡ entry 0 a.slot_of.items c.args.f = rw c.deref.ensures.value at c.entry_at-after.ensures in
-    record {
-      room = h.room;
-      slots_room = h.slots_room;
-      few = h.few;
-      blank = h.blank;
-      apart = apart_in_place a.slot_of.items a.slots c.args.f c.entry_at-after.result c.index_mut.result.now c.args.running h.apart read c.if-after-eq0.false c.index_mut.ensures.value;
-    }
+    slots_in_place c.self.inside c.self.invariant c.args.f c.entry_at-after.result (rw c.deref.ensures.value at c.entry_at-after.ensures) c.if-after-eq0.false c.index_mut.result.now c.args.running c.index_mut.ensures.value
 
 pub returns-else-after-eq0 : goal.returns-else-after-eq0
 returns-else-after-eq0 c =

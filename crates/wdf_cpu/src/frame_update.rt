@@ -2,14 +2,14 @@
 ghost use Rattle.std.specs.Prelude.{◌≡◌, slice_set};
 ghost use Rattle.std.specs.Option.{option_map};
 ghost use Rattle.wdf_cpu.specs.Keys.{waited_by};
-ghost use Rattle.wdf_cpu.specs.Going.{gone};
+ghost use Rattle.wdf_cpu.specs.FrameUpdate.{gone};
 
 use wdf_base::{Change, Frame, ObjectId, Pending, VARIABLES, Value};
 use wdf_model::object_in;
 
 /// What changes of a frame that goes on.
 #[derive(Clone, Copy)]
-pub struct Going {
+pub struct FrameUpdate {
     /// A variable that takes a value, or a count of runs.
     pub change: Change,
     /// The number of its next statement.
@@ -20,7 +20,7 @@ pub struct Going {
     pub pending: Option<Pending>,
 }
 
-impl Going {
+impl FrameUpdate {
     /// A frame once it has gone on.
     pub fn of(&self, frame: &Frame) -> Frame
         ensures { result ≡ gone self.now frame.now }
@@ -32,25 +32,25 @@ impl Going {
 }
 
 /// The object for which a frame waits once it has gone on.
-pub(crate) fn awaits(going: &Going) -> Option<ObjectId>
-    ensures { option_map (λ o. o.0) result ≡ waited_by going.now.pending }
+pub(crate) fn awaits(update: &FrameUpdate) -> Option<ObjectId>
+    ensures { option_map (λ o. o.0) result ≡ waited_by update.now.pending }
 {
-    let pending = going.pending?;
+    let pending = update.pending?;
     Some(object_in(pending.call.a))
 }
 
 /// A frame goes on.
-pub(crate) fn goes(frame: &mut Frame, going: &Going)
-    ensures { frame.new ≡ gone going.now frame.old }
+pub(crate) fn goes(frame: &mut Frame, update: &FrameUpdate)
+    ensures { frame.new ≡ gone update.now frame.old }
 {
-    match going.change {
+    match update.change {
         Change::Assign { variable, value } => set_variable(&mut frame.variables, variable, value),
         Change::Branch => {}
         Change::Count { depth, left } => set_counter(&mut frame.counters, depth, left),
     }
-    frame.at = going.at;
-    frame.until = going.until;
-    frame.pending = going.pending;
+    frame.at = update.at;
+    frame.until = update.until;
+    frame.pending = update.pending;
 }
 
 /// One of the variables has a value.
