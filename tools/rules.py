@@ -2,8 +2,8 @@
 """Writes docs/RULES.md from tools/rules.txt, or with --check says whether it is what would be written, but for the lines of its links.
 
 tools/rules.txt has a rule a line, with bars between its parts: its words, and the definitions that state it, with commas
-between them. Then, where the script doesn't find what shows most, its laws and its wrong bodies, by their names; `-` says that
-it has none of its own. A definition is a name of crates/wdf_model, or of the crate in brackets after it, or of the file there (a
+between them. Then, where the script doesn't find what shows most, its laws and its wrong bodies, by their names (a law whose name
+two crates have as CRATE::NAME); `-` says that it has none of its own. A definition is a name of crates/wdf_model, or of the crate in brackets after it, or of the file there (a
 path below crates/); other brackets name a row, and the link leads to the first line of the definition that has its first word.
 Each name has to exist, and one that several files of its crate have needs its file. The script adds the functions whose contracts cite a definition (code), and where no laws or wrong bodies are given, the
 laws over it (functions without a body in the crates whose names begin with law_) and the wrong bodies inside the code. Some
@@ -183,8 +183,8 @@ class Found:
                     table.setdefault((its_crate, definition), []).append((key, place, module))
 
     def law(self, name):
-        """The law with this name, with its file, or None where none or more than one has it."""
-        found = self.functions.get(name, [])
+        """The law with this name, `crate::name` or `name` alone, with its file, or None where none or more than one has it."""
+        found = [law for law in self.functions.get(name.split("::")[-1], []) if "::" not in name or law[0] == name]
         found = [law for law in found if law[0].startswith(LAWS)] or found
         return found[0] if len(found) == 1 else None
 
@@ -276,7 +276,7 @@ def page():
                 told.append(link(name, place))
             module = module_of(file) if file else None
             functions = of_module(found.code.get((crate, last), []), module)
-            by_definition.append((last, [item for item in functions if item[0].split("::")[-1] not in (laws or ())]))
+            by_definition.append((last, [item for item in functions if not {item[0], item[0].split("::")[-1]} & set(laws or ())]))
             by_law += of_module(found.laws.get((crate, last), []), module)
         by_edit = [(edit.stem, Place(edit, None)) for _, functions in by_definition for key, _ in functions for edit in found.edits.get(key, [])]
         shown_laws, shown_edits = several(sorted(by_law)), several(sorted(by_edit))
