@@ -1,4 +1,5 @@
 pub mod Lists
+pub mod Scenes
 pub mod Plans
 pub mod Deeds
 pub mod Ready

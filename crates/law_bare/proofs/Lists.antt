@@ -1,5 +1,6 @@
 -- Searches in a list whose items are changed in what the test doesn't see.
 use Rattle.std.proofs.Common.{◌≡◌, ℕ, zero, suc, Bool, true, false, cond, not, List, [], ◌∷◌, map, drop, find, position, take, ◌++◌, Option, Some, None, is_some, option_map, slice_get, refl, ap, ◌∙◌}
+use Rattle.std.specs.Prelude.{option_and_then}
 use Rattle.std.specs.List.{cons_option, filter_map, flat_map, list_any, prefix_len}
 use Rattle.std.proofs.lemmas.List.{length-map}
 use Rattle.std.specs.Option.{option_or}
@@ -49,6 +50,15 @@ any_same p q same (x ∷ xs) = rw (same x, any_same p q same xs) refl
 pub mapped_some : {X Y : Type 0} (f : X → Y) (o : Option X) → is_some (option_map f o) ≡ is_some o
 mapped_some f None = refl
 mapped_some f (Some x) = refl
+
+-- what is read of an option's item is the same
+pub then_same : {X Y : Type 0} (f g : X → Option Y) → ((x : X) → f x ≡ g x) → (o : Option X) → option_and_then f o ≡ option_and_then g o
+then_same f g same None = refl
+then_same f g same (Some x) = same x
+
+pub then_mapped : {X Y : Type 0} (u : X → X) (f g : X → Option Y) → ((x : X) → f (u x) ≡ g x) → (o : Option X) → option_and_then f (option_map u o) ≡ option_and_then g o
+then_mapped u f g same None = refl
+then_mapped u f g same (Some x) = same x
 
 pub or_alike : {X Y : Type 0} (a b : Option X) (c d : Option Y) → is_some a ≡ is_some c → is_some b ≡ is_some d → is_some (option_or a b) ≡ is_some (option_or c d)
 or_alike None b None d e rest = rest

@@ -1,38 +1,24 @@
 -- Whether a line is refused is the same without line numbers.
-use Rattle.std.proofs.Common.{◌≡◌, ℕ, Bool, true, false, not, ◌&&◌, ◌||◌, nat_le, nat_lt, List, [], ◌∷◌, map, Option, Some, None, is_some, option_map, refl, sym, ap, ◌∙◌}
+use Rattle.std.proofs.Common.{◌≡◌, ℕ, Bool, true, false, not, ◌||◌, nat_le, nat_lt, List, [], ◌∷◌, map, Option, Some, None, is_some, option_map, refl, sym, ap, ◌∙◌}
 use Rattle.std.specs.Prelude.{option_and_then}
-use Rattle.std.specs.List.{list_any}
 use Rattle.std.specs.Option.{option_or}
-use Rattle.wdf_base.specs.Calls.{signature_of}
-use Rattle.wdf_base.specs.Callbacks.{row_of}
-use Rattle.wdf_base.specs.Resolved.{function_of, is_from, serial_level}
-use Rattle.wdf_base.specs.declared.call.Callback.TheVariants as callback
-use Rattle.wdf_base.specs.declared.declared.DeferredKind.{DeferredKind}
-use Rattle.wdf_base.specs.declared.signature.Sort.{Sort}
-use Rattle.wdf_base.specs.declared.signature.Sort.TheVariants as sort
-use Rattle.wdf_scene.specs.declared.line.SceneAction.{SceneAction}
-use Rattle.wdf_scene.specs.declared.line.SceneAction.TheVariants as action
-use Rattle.wdf_scene.specs.declared.line.SceneArg.{SceneArg}
-use Rattle.wdf_scene.specs.declared.line.SceneArg.TheVariants as arg
-use Rattle.wdf_scene.specs.declared.line.SceneExpr.{SceneExpr}
-use Rattle.wdf_scene.specs.declared.line.SceneExpr.TheVariants as expr
+use Rattle.wdf_base.specs.Resolved.{is_from}
 use Rattle.wdf_scene.specs.declared.line.SceneLine.{SceneLine}
 use Rattle.wdf_scene.specs.declared.line.SceneLine.TheVariants as line
 use Rattle.wdf_scene.specs.declared.scene.Scene.{Scene}
 use Rattle.wdf_scene.specs.Naming.{declared_name}
 use Rattle.wdf_parse.specs.StandsFor.{without_numbers}
 use Rattle.wdf_blocks.specs.declared.attribute.Attribute.{Attribute}
-use Rattle.wdf_blocks.specs.declared.attribute.Attribute.TheVariants as attribute
 use Rattle.wdf_blocks.specs.declared.declaration.Declaration.{Declaration}
 use Rattle.wdf_blocks.specs.declared.declaration.Wanted.{Wanted}
 use Rattle.wdf_blocks.specs.declared.declaration.Wanted.TheVariants as wanted
 use Rattle.wdf_blocks.specs.declared.placed.Placed.{Placed}
 use Rattle.wdf_blocks.specs.Attribute.{attribute_of}
-use Rattle.wdf_blocks.specs.Blocks.{form_at, given, has_given, number_at}
-use Rattle.wdf_blocks.specs.Declarations.{declarations, has_name, is_parent_at, stands}
+use Rattle.wdf_blocks.specs.Blocks.{given, number_at}
+use Rattle.wdf_blocks.specs.Declarations.{declarations, has_name, stands}
 use Rattle.wdf_blocks.specs.Forms.{assigned_name}
 use Rattle.wdf_blocks.specs.Placed.{placed}
-use Rattle.wdf_blocks.specs.Variables.{variable_number, variables_at}
+use Rattle.wdf_blocks.specs.Variables.{variables_at}
 use Rattle.wdf_refusals.specs.declared.limit.Limit.{Limit}
 use Rattle.wdf_refusals.specs.declared.limit.Limit.TheVariants as limit
 use Rattle.wdf_refusals.specs.declared.limit.TheConstants.{LIMITS}
@@ -40,8 +26,9 @@ use Rattle.wdf_refusals.specs.declared.refusal.PlanRefusal.{PlanRefusal}
 use Rattle.wdf_refusals.specs.declared.refusal.PlanRefusal.TheVariants as refusal
 use Rattle.wdf_refusals.specs.First.{first_refusal, first_some, if_holds, if_over, if_twice, refused, refused_at}
 use Rattle.wdf_refusals.specs.Limits.{exceeded, exceeds, over_objects}
-use Rattle.wdf_refusals.specs.Rows.{block_is, earlier_line, first_line, given_line, has_callbacks, home, incompatible_level, is_deferred_block, is_timer_block, is_working_block, lacks_parent, no_parent, nodes_of, reserved_line, taken_line, twice_assigned, twice_attribute, twice_declared, twice_given, twice_named, unknown_action, unknown_argument, unknown_class, unknown_name, unknown_node, unknown_parent, unknown_word, unlike_block, unlike_parent, wrong_callback}
-use Rattle.law_bare.proofs.Lists.{any_map, any_same, cond_alike, find_map, find_same, none_by, or_alike}
+use Rattle.wdf_refusals.specs.Rows.{earlier_line, first_line, given_line, home, incompatible_level, no_parent, nodes_of, reserved_line, taken_line, twice_assigned, twice_attribute, twice_declared, twice_given, twice_named, unknown_name, wrong_callback}
+use Rattle.law_bare.proofs.Lists.{cond_alike, find_map, find_same, none_by, or_alike, then_same}
+use Rattle.law_bare.proofs.Scenes.{AreReadAlike, IsPlaceOf, callback_alike, incompatible_alike, no_parent_alike, unknown_alike, wanted_by}
 use Rattle.law_canonical.proofs.Scenes.{block_alike, given_alike, has_given_alike, names_alike, objects_alike, parent_level_alike, places_alike, stands_alike, undeclared, unplaced, variables_alike}
 
 -- ---- the six reasons
@@ -82,57 +69,15 @@ module _ (names : List Declaration) where
   abbrev bare_names : List Declaration
   bare_names = map undeclared names
 
-  same : (n : List ℕ) (w : Wanted) → stands bare_names n w ≡ stands names n w
-  same n w = stands_alike names n w
-
-  action_alike : (device : Option ℕ) (a : SceneAction) → unknown_action bare_names device a ≡ unknown_action names device a
-  unfolding unknown_action
-  action_alike device (action.Set r v) = ap not (same r (wanted.RegisterOf device))
-  action_alike device (action.Raise i) = ap not (same i (wanted.InterruptOf device))
-  action_alike device (action.Lower i) = ap not (same i (wanted.InterruptOf device))
-
-  class_alike : (s : Sort) (n : List ℕ) → unknown_class bare_names s n ≡ unknown_class names s n
-  unfolding unknown_class
-  class_alike (sort.Class k) n = ap not (same n (wanted.ClassOf k))
-  class_alike _ n = refl
-
-  argument_alike : (s : Sort) (a : SceneArg) → unknown_argument bare_names s a ≡ unknown_argument names s a
-  unfolding unknown_argument
-  argument_alike s (arg.OfClass n) = class_alike s n
-  argument_alike s _ = refl
-
-  parent_alike : (parent : Option (List ℕ)) → unknown_parent bare_names parent ≡ unknown_parent names parent
-  unfolding unknown_parent
-  parent_alike None = refl
-  parent_alike (Some n) = ap not (same n wanted.Anything)
-
-  word_alike : (device : Option ℕ) (form : SceneLine) → unknown_word bare_names device form ≡ unknown_word names device form
-  unfolding unknown_word
-  word_alike device (line.DeferredClass n k parent) = parent_alike parent
-  word_alike device (line.When access r a after) = rw (same r (wanted.RegisterOf device), action_alike device a) refl
-  word_alike device (line.At tick a) = action_alike device a
-  word_alike device (line.AtRead tick d n) = ap not (same d wanted.Device)
-  word_alike device (line.AtWrite tick d n) = ap not (same d wanted.Device)
-  word_alike device (line.AtControl tick d code n) = ap not (same d wanted.Device)
-  word_alike device (line.AtAsk tick ask d) = ap not (same d wanted.Device)
-  word_alike device (line.Get x r) = ap not (same r wanted.Register)
-  word_alike device (line.Put r e) = ap not (same r wanted.Register)
-  word_alike device (line.Call k into a b c) = rw (argument_alike (signature_of k).a a, argument_alike (signature_of k).b b, argument_alike (signature_of k).c c) refl
-  word_alike device _ = refl
-
-  node_alike : (variables : List (List ℕ)) (e : SceneExpr) → unknown_node bare_names variables e ≡ unknown_node names variables e
-  unfolding unknown_node
-  node_alike variables (expr.Named n) = ap (λ b. not (is_some (variable_number variables n)) && not b) (same n wanted.Object)
-  node_alike variables _ = refl
-
-  lacks_alike : (parent : Option (List ℕ)) → lacks_parent bare_names parent ≡ lacks_parent names parent
-  lacks_alike None = refl
-  lacks_alike (Some n) = rw (same n wanted.Anything, same n wanted.Parent) refl
-
-  no_parent_alike : (form : SceneLine) → no_parent bare_names form ≡ no_parent names form
-  unfolding no_parent
-  no_parent_alike (line.DeferredClass n k parent) = lacks_alike parent
-  no_parent_alike _ = refl
+  same : (n : List ℕ) (w : Wanted) → stands bare_names n (wanted_by (λ o. o) w) ≡ stands names n w
+  same n (wanted.RegisterOf device) = stands_alike names n (wanted.RegisterOf device)
+  same n (wanted.InterruptOf device) = stands_alike names n (wanted.InterruptOf device)
+  same n wanted.Anything = stands_alike names n wanted.Anything
+  same n wanted.Device = stands_alike names n wanted.Device
+  same n wanted.Object = stands_alike names n wanted.Object
+  same n wanted.Parent = stands_alike names n wanted.Parent
+  same n wanted.Register = stands_alike names n wanted.Register
+  same n (wanted.ClassOf k) = stands_alike names n (wanted.ClassOf k)
 
   first_line_alike : (n : List ℕ) → first_line bare_names n ≡ option_map undeclared (first_line names n)
   unfolding first_line
@@ -172,48 +117,11 @@ module _ (names : List Declaration) where
     unfolding nodes_of
     nodes_alike p = refl
 
-    unknown_alike : (variables : List (List ℕ)) (p : Placed) → unknown_name bare bare_names variables (unplaced p) ≡ unknown_name s names variables p
-    unfolding unknown_name
-    unknown_alike variables p =
-        ap (λ b. b || list_any (unknown_node bare_names variables) (nodes_of bare (unplaced p))) (word_alike p.stand.device p.form)
-        ∙ ap (λ b. unknown_word names p.stand.device p.form || b)
-        (any_same (unknown_node bare_names variables) (unknown_node names variables) (node_alike variables) (nodes_of bare (unplaced p)) ∙ ap (list_any (unknown_node names variables)) (nodes_alike p))
+    read : AreReadAlike (λ o. o) (λ k. k) undeclared s bare
+    read = record { block = block_alike s; has = has_given_alike s; parent = parent_level_alike s }
 
-    block_test : (t u : SceneLine → Bool) → ((form : SceneLine) → t form ≡ u form) → (o : Option SceneLine) → (elim o as (λ _. Bool) [ None ↦ false | Some form ↦ t form ]) ≡ (elim o as (λ _. Bool) [ None ↦ false | Some form ↦ u form ])
-    block_test t u alike None = refl
-    block_test t u alike (Some form) = alike form
-
-    block_is_alike : (t u : SceneLine → Bool) → ((form : SceneLine) → t form ≡ u form) → (b : Option ℕ) → block_is t bare b ≡ block_is u s b
-    block_is_alike t u alike b =
-        ap (λ (o : Option SceneLine). elim o as (λ _. Bool) [ None ↦ false | Some form ↦ t form ]) (block_alike s b) ∙ block_test t u alike (option_and_then (form_at s) b)
-
-    callback_alike : (p : Placed) (form : SceneLine) → wrong_callback bare (unplaced p) form ≡ wrong_callback s p form
-    unfolding wrong_callback
-    callback_alike p (line.On c) = ap not (block_is_alike (has_callbacks (row_of c).owner) (has_callbacks (row_of c).owner) (λ f. refl) p.stand.block)
-    callback_alike p line.Serialize = ap not (block_is_alike is_deferred_block is_deferred_block (λ f. refl) p.stand.block)
-    callback_alike p (line.Period n) = ap not (block_is_alike is_timer_block is_timer_block (λ f. refl) p.stand.block)
-    callback_alike p (line.Interrupt n level) =
-        ap (λ b. not b || block_is is_working_block bare p.stand.device) (has_given_alike s p.at (attribute.On callback.EvtInterruptIsr))
-        ∙ ap (λ b. not (has_given s p.at (attribute.On callback.EvtInterruptIsr)) || b) (block_is_alike is_working_block is_working_block (λ f. refl) p.stand.device)
-    callback_alike p (line.Target n delay status depth) = ap not (has_given_alike s p.at (attribute.On callback.EvtRequestCompletion))
-    callback_alike p (line.DeferredClass n k parent) = ap not (has_given_alike s p.at (attribute.On (function_of k)))
-    callback_alike p _ = refl
-
-    unlike_parent_alike : (k : DeferredKind) (n : List ℕ) → unlike_parent bare bare_names k n ≡ unlike_parent s names k n
-    unfolding unlike_parent
-    unlike_parent_alike k n =
-        ap (λ b. b && not (list_any (is_parent_at bare (serial_level k) n) bare_names)) (same n wanted.Parent)
-        ∙ ap (λ b. stands names n wanted.Parent && not b) (any_map undeclared (is_parent_at s (serial_level k) n) (is_parent_at bare (serial_level k) n) (parent_level_alike s (serial_level k) n) names)
-
-    unlike_alike : (form : SceneLine) → unlike_block bare bare_names form ≡ unlike_block s names form
-    unfolding unlike_block
-    unlike_alike (line.DeferredClass n k (Some parent)) = unlike_parent_alike k parent
-    unlike_alike _ = refl
-
-    incompatible_alike : (p : Placed) (form : SceneLine) → incompatible_level bare bare_names (unplaced p) form ≡ incompatible_level s names p form
-    unfolding incompatible_level
-    incompatible_alike p line.Serialize = block_is_alike (unlike_block bare bare_names) (unlike_block s names) unlike_alike p.stand.block
-    incompatible_alike p _ = refl
+    stays : (p : Placed) → IsPlaceOf (λ o. o) (λ k. k) p (unplaced p)
+    stays p = record { at = refl; block = refl; device = refl }
 
     -- ---- names and attributes that are given twice
 
@@ -221,13 +129,9 @@ module _ (names : List Declaration) where
     given_line_alike at None = refl
     given_line_alike at (Some k) = cond_alike (nat_lt k at) (number_at bare k) (number_at s k) None
 
-    home_alike : (a : Attribute) (o : Option ℕ) → option_and_then (λ b. given bare b a) o ≡ option_and_then (λ b. given s b a) o
-    home_alike a None = refl
-    home_alike a (Some b) = given_alike s b a
-
     twice_given_alike : (p : Placed) (a : Attribute) → is_some (twice_given bare (unplaced p) a) ≡ is_some (twice_given s p a)
     unfolding twice_given
-    twice_given_alike p a = ap (λ o. is_some (given_line bare p.at o)) (home_alike a (home p a)) ∙ given_line_alike p.at (option_and_then (λ b. given s b a) (home p a))
+    twice_given_alike p a = ap (λ o. is_some (given_line bare p.at o)) (then_same (λ b. given bare b a) (λ b. given s b a) (λ b. given_alike s b a) (home p a)) ∙ given_line_alike p.at (option_and_then (λ b. given s b a) (home p a))
 
     attribute_alike : (p : Placed) (o : Option Attribute) → is_some (twice_attribute bare (unplaced p) o) ≡ is_some (twice_attribute s p o)
     attribute_alike p None = refl
@@ -264,23 +168,23 @@ module _ (names : List Declaration) where
 
     unknown_is : (variables : List (List ℕ)) (p : Placed) → is_some (unknown_part bare bare_names variables (unplaced p)) ≡ is_some (unknown_part s names variables p)
     unknown_is variables p =
-        holds_alike (unknown_name bare bare_names variables (unplaced p)) (unknown_name s names variables p) (refusal.UnknownName 0) (refusal.UnknownName p.number) (unknown_alike variables p)
+        holds_alike (unknown_name bare bare_names variables (unplaced p)) (unknown_name s names variables p) (refusal.UnknownName 0) (refusal.UnknownName p.number) (unknown_alike (λ o. o) names bare_names same s bare variables p (unplaced p) refl refl (nodes_alike p))
 
     given_twice_is : (p : Placed) → is_some (twice_part bare bare_names (unplaced p)) ≡ is_some (twice_part s names p)
     given_twice_is p = twice_is 0 (twice_named bare bare_names (unplaced p)) ∙ twice_alike p ∙ sym (twice_is p.number (twice_named s names p))
 
     callback_is : (p : Placed) → is_some (callback_part bare (unplaced p)) ≡ is_some (callback_part s p)
-    callback_is p = holds_alike (wrong_callback bare (unplaced p) p.form) (wrong_callback s p p.form) (refusal.WrongCallback 0) (refusal.WrongCallback p.number) (callback_alike p p.form)
+    callback_is p = holds_alike (wrong_callback bare (unplaced p) p.form) (wrong_callback s p p.form) (refusal.WrongCallback 0) (refusal.WrongCallback p.number) (callback_alike (λ o. o) (λ k. k) undeclared s bare read p (unplaced p) (stays p) p.form)
 
     limit_is : (variables : List (List ℕ)) (p : Placed) → is_some (limit_part bare_names variables (unplaced p)) ≡ is_some (limit_part names variables p)
     limit_is variables p = over_is 0 (exceeded bare_names variables (unplaced p)) ∙ ap is_some (exceeded_alike variables p) ∙ sym (over_is p.number (exceeded names variables p))
 
     level_is : (p : Placed) → is_some (level_part bare bare_names (unplaced p)) ≡ is_some (level_part s names p)
     level_is p =
-        holds_alike (incompatible_level bare bare_names (unplaced p) p.form) (incompatible_level s names p p.form) (refusal.IncompatibleLevel 0) (refusal.IncompatibleLevel p.number) (incompatible_alike p p.form)
+        holds_alike (incompatible_level bare bare_names (unplaced p) p.form) (incompatible_level s names p p.form) (refusal.IncompatibleLevel 0) (refusal.IncompatibleLevel p.number) (incompatible_alike (λ o. o) (λ k. k) undeclared s bare read names same p (unplaced p) (stays p) p.form)
 
     parent_is : (p : Placed) → is_some (parent_part bare_names (unplaced p)) ≡ is_some (parent_part names p)
-    parent_is p = holds_alike (no_parent bare_names p.form) (no_parent names p.form) (refusal.NoParent 0) (refusal.NoParent p.number) (no_parent_alike p.form)
+    parent_is p = holds_alike (no_parent bare_names p.form) (no_parent names p.form) (refusal.NoParent 0) (refusal.NoParent p.number) (no_parent_alike (λ o. o) names bare_names same p.form)
 
     refused_alike : (variables : List (List ℕ)) (p : Placed) → is_some (refused bare bare_names variables (unplaced p)) ≡ is_some (refused s names variables p)
     unfolding refused

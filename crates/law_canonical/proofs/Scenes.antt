@@ -21,8 +21,9 @@ use Rattle.wdf_blocks.specs.Blocks.{counts_for, depth_after, driver_line, effect
 use Rattle.wdf_blocks.specs.Declarations.{declarations, declared_by, declared_on, declares_object, found, has_name, is_parent_at, is_wanted, object_count, stands, suits}
 use Rattle.wdf_blocks.specs.Forms.{assigned_name}
 use Rattle.wdf_blocks.specs.Placed.{counted, nothing, opened_by, outside, placed, placed_from, placed_line}
-use Rattle.wdf_blocks.specs.Variables.{assigned_from, variables, variables_at, variables_in, with_assigned}
-use Rattle.law_bare.proofs.Lists.{at_map, drop_map, find_map, mapped_some, position_map}
+use Rattle.wdf_blocks.specs.Variables.{assigned_from, variables, variables_at, with_assigned}
+use Rattle.law_bare.proofs.Lists.{at_map, drop_map, find_map, mapped_some, position_map, then_same}
+use Rattle.law_bare.proofs.Scenes.{variables_same}
 
 -- a line of a scene where it is, and a declaration, without the number of its line
 abbrev pub unplaced : Placed → Placed
@@ -124,16 +125,14 @@ module _ (s : Scene) where
   form_alike k = at_map without_number (λ l. l.form) (λ l. refl) s.lines k
 
   pub block_alike : (o : Option ℕ) → option_and_then (form_at bare) o ≡ option_and_then (form_at s) o
-  block_alike None = refl
-  block_alike (Some k) = form_alike k
+  block_alike = then_same (form_at bare) (form_at s) form_alike
 
   pub level_alike : (b : ℕ) → given_level bare b ≡ given_level s b
   unfolding given_level
   level_alike b = ap (λ o. option_and_then level_in (option_and_then (form_at bare) o)) (given_alike b attribute.Level) ∙ ap (option_and_then level_in) (block_alike (given s b attribute.Level))
 
   level_of_any : (o : Option ℕ) → option_and_then (given_level bare) o ≡ option_and_then (given_level s) o
-  level_of_any None = refl
-  level_of_any (Some b) = level_alike b
+  level_of_any = then_same (given_level bare) (given_level s) level_alike
 
   driver_alike : driver_line bare ≡ driver_line s
   unfolding driver_line
@@ -148,8 +147,7 @@ module _ (s : Scene) where
   scope_alike b = ap (λ o. option_and_then scope_in (option_and_then (form_at bare) o)) (given_alike b attribute.Scope) ∙ ap (option_and_then scope_in) (block_alike (given s b attribute.Scope))
 
   scope_of_any : (o : Option ℕ) → option_and_then (given_scope bare) o ≡ option_and_then (given_scope s) o
-  scope_of_any None = refl
-  scope_of_any (Some b) = scope_alike b
+  scope_of_any = then_same (given_scope bare) (given_scope s) scope_alike
 
   pub effective_scope_alike : (b : ℕ) (device : Option ℕ) → effective_scope bare b device ≡ effective_scope s b device
   unfolding effective_scope
@@ -169,11 +167,5 @@ module _ (s : Scene) where
   unfolding variables
   variables_of k = ap (assigned_from [] 0) (drop_map without_number (suc k) s.lines) ∙ assigned_alike [] 0 (drop (suc k) s.lines)
 
-  variables_of_any : (o : Option ℕ) → variables_in bare o ≡ variables_in s o
-  unfolding variables_in
-  variables_of_any None = refl
-  variables_of_any (Some k) = variables_of k
-
   pub variables_alike : (p : Placed) → variables_at bare (unplaced p) ≡ variables_at s p
-  unfolding variables_at
-  variables_alike p = variables_of_any p.stand.callback
+  variables_alike p = variables_same s bare variables_of p (unplaced p) refl

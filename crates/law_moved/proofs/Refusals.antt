@@ -28,7 +28,7 @@ use Rattle.wdf_refusals.specs.First.{first_refusal, first_some, refused, refused
 use Rattle.wdf_refusals.specs.Limits.{exceeded, exceeds, is_one_too_many, over_objects, over_variables}
 use Rattle.wdf_refusals.specs.Rows.{block_is, given_line, has_callbacks, home, incompatible_level, is_deferred_block, is_timer_block, is_working_block, no_parent, nodes_of, twice_assigned, twice_attribute, twice_declared, twice_given, twice_named, unknown_name, unknown_node, unknown_word, unlike_block, unlike_parent, wrong_callback}
 use Rattle.wdf_jitter.specs.Moved.{moved_scene}
-use Rattle.law_bare.proofs.Lists.{any_same, find_same}
+use Rattle.law_bare.proofs.Lists.{any_same, find_same, then_same}
 use Rattle.law_moved.proofs.Untimed.{by_form, scene_alike, untimed, untimed_scene}
 use Rattle.law_moved.proofs.Forms.{assigned_name_alike, attribute_alike, callbacks_alike, declared_alike, is_app_alike, is_class_alike, is_deferred_block_alike, is_device_alike, is_post_alike, is_register_alike, is_statement_alike, is_timer_block_alike, is_working_block_alike, nodes_alike, over_cpus_alike, over_depth_alike, over_level_alike, over_limit_alike, over_parallel_alike, over_ticks_alike}
 use Rattle.law_moved.proofs.Scenes.{block_alike, given_alike, has_given_alike, names_alike, number_alike, parent_level_alike, places_alike, unplaced, variables_alike}
@@ -156,13 +156,9 @@ module _ (names : List Declaration) where
     given_line_alike at None = refl
     given_line_alike at (Some k) = ap (λ n. cond (nat_lt k at) (Some n) None) (number_alike s k)
 
-    home_alike : (a : Attribute) (o : Option ℕ) → option_and_then (λ b. given bare b a) o ≡ option_and_then (λ b. given s b a) o
-    home_alike a None = refl
-    home_alike a (Some b) = given_alike s b a
-
     twice_given_alike : (p : Placed) (a : Attribute) → twice_given bare (unplaced p) a ≡ twice_given s p a
     unfolding twice_given
-    twice_given_alike p a = ap (given_line bare p.at) (home_alike a (home p a)) ∙ given_line_alike p.at (option_and_then (λ b. given s b a) (home p a))
+    twice_given_alike p a = ap (given_line bare p.at) (then_same (λ b. given bare b a) (λ b. given s b a) (λ b. given_alike s b a) (home p a)) ∙ given_line_alike p.at (option_and_then (λ b. given s b a) (home p a))
 
     attribute_twice : (p : Placed) (o : Option Attribute) → twice_attribute bare (unplaced p) o ≡ twice_attribute s p o
     attribute_twice p None = refl

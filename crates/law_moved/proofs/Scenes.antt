@@ -19,8 +19,9 @@ use Rattle.wdf_blocks.specs.Blocks.{counts_for, depth_after, driver_line, effect
 use Rattle.wdf_blocks.specs.Declarations.{declarations, declared_by, declared_on, is_parent_at, is_wanted}
 use Rattle.wdf_blocks.specs.Forms.{assigned_name}
 use Rattle.wdf_blocks.specs.Placed.{counted, nothing, opened_by, outside, placed, placed_from, placed_line}
-use Rattle.wdf_blocks.specs.Variables.{assigned_from, variables, variables_at, variables_in, with_assigned}
-use Rattle.law_bare.proofs.Lists.{at_map, at_mapped, drop_map, gathered_same, position_map}
+use Rattle.wdf_blocks.specs.Variables.{assigned_from, variables, variables_at, with_assigned}
+use Rattle.law_bare.proofs.Lists.{at_map, at_mapped, drop_map, gathered_same, position_map, then_same}
+use Rattle.law_bare.proofs.Scenes.{variables_same}
 use Rattle.law_moved.proofs.Untimed.{by_form, untimed, untimed_line, untimed_scene}
 use Rattle.law_moved.proofs.Forms.{assigned_name_alike, counted_alike, counts_alike, depth_alike, ends_alike, is_driver_alike, level_in_alike, opened_alike}
 
@@ -118,8 +119,7 @@ module _ (s : Scene) where
       ∙ read_alike level_in level_in_alike (option_and_then (form_at s) (given s b attribute.Level))
 
   level_of_any : (o : Option ℕ) → option_and_then (given_level bare) o ≡ option_and_then (given_level s) o
-  level_of_any None = refl
-  level_of_any (Some b) = level_alike b
+  level_of_any = then_same (given_level bare) (given_level s) level_alike
 
   pub driver_alike : driver_line bare ≡ driver_line s
   unfolding driver_line
@@ -147,11 +147,5 @@ module _ (s : Scene) where
   unfolding variables
   variables_of k = ap (assigned_from [] 0) (drop_map untimed_line (suc k) s.lines) ∙ assigned_alike [] 0 (drop (suc k) s.lines)
 
-  variables_of_any : (o : Option ℕ) → variables_in bare o ≡ variables_in s o
-  unfolding variables_in
-  variables_of_any None = refl
-  variables_of_any (Some k) = variables_of k
-
   pub variables_alike : (p : Placed) → variables_at bare (unplaced p) ≡ variables_at s p
-  unfolding variables_at
-  variables_alike p = variables_of_any p.stand.callback
+  variables_alike p = variables_same s bare variables_of p (unplaced p) refl

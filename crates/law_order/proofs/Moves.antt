@@ -18,7 +18,8 @@ use Rattle.wdf_blocks.specs.declared.placed.Stand.{Stand}
 use Rattle.wdf_blocks.specs.Blocks.{driver_line, effective_level, effective_scope, form_at, given, given_level, given_scope, has_given, level_in, number_at, scope_in}
 use Rattle.wdf_blocks.specs.Declarations.{declared_by, declared_on, declares_object, found, has_name, is_interrupt, is_parent_at, is_register, is_wanted, object_count, stands, suits}
 use Rattle.wdf_blocks.specs.Variables.{variables, variables_at, variables_in}
-use Rattle.law_bare.proofs.Lists.{find_map, mapped_some}
+use Rattle.law_bare.proofs.Lists.{find_map, mapped_some, then_mapped}
+use Rattle.law_bare.proofs.Scenes.{wanted_by}
 
 -- so many picks more were counted
 abbrev pub more : ℕ → Counts → Counts
@@ -40,9 +41,7 @@ module _ (to : ℕ → ℕ) where
 
   -- what a line needs there
   abbrev pub moved_wanted : Wanted → Wanted
-  moved_wanted (wanted.RegisterOf v) = wanted.RegisterOf (option_map to v)
-  moved_wanted (wanted.InterruptOf v) = wanted.InterruptOf (option_map to v)
-  moved_wanted w = w
+  moved_wanted = wanted_by (option_map to)
 
   -- the second scene has the lines of the first, with others between them: each line is at its new place, in the same order
   pub record IsMoved (one two : Scene) : Type 0 where
@@ -111,28 +110,30 @@ module _ (to : ℕ → ℕ) (one two : Scene) (m : IsMoved to one two) where
   has_given_alike b a = ap is_some (m.gives b a) ∙ mapped_some to (given one b a)
 
   pub block_alike : (o : Option ℕ) → option_and_then (form_at two) (option_map to o) ≡ option_and_then (form_at one) o
-  block_alike None = refl
-  block_alike (Some k) = m.form k
+  block_alike = then_mapped to (form_at two) (form_at one) m.form
+
+  -- what is read of the line that gives a block an attribute
+  part_alike : {X : Type 0} (read : SceneLine → Option X) (a : Attribute) (b : ℕ)
+      → option_and_then read (option_and_then (form_at two) (given two (to b) a)) ≡ option_and_then read (option_and_then (form_at one) (given one b a))
+  part_alike read a b = ap (λ o. option_and_then read (option_and_then (form_at two) o)) (m.gives b a) ∙ ap (option_and_then read) (block_alike (given one b a))
 
   level_alike : (b : ℕ) → given_level two (to b) ≡ given_level one b
   unfolding given_level
-  level_alike b = ap (λ o. option_and_then level_in (option_and_then (form_at two) o)) (m.gives b attribute.Level) ∙ ap (option_and_then level_in) (block_alike (given one b attribute.Level))
+  level_alike = part_alike level_in attribute.Level
+
+  scope_alike : (b : ℕ) → given_scope two (to b) ≡ given_scope one b
+  unfolding given_scope
+  scope_alike = part_alike scope_in attribute.Scope
 
   level_of_any : (o : Option ℕ) → option_and_then (given_level two) (option_map to o) ≡ option_and_then (given_level one) o
-  level_of_any None = refl
-  level_of_any (Some b) = level_alike b
+  level_of_any = then_mapped to (given_level two) (given_level one) level_alike
+
+  scope_of_any : (o : Option ℕ) → option_and_then (given_scope two) (option_map to o) ≡ option_and_then (given_scope one) o
+  scope_of_any = then_mapped to (given_scope two) (given_scope one) scope_alike
 
   pub effective_alike : (b : ℕ) (device : Option ℕ) → effective_level two (to b) (option_map to device) ≡ effective_level one b device
   unfolding effective_level
   effective_alike b device = rw (level_alike b, level_of_any device, m.driver, level_of_any (driver_line one)) refl
-
-  scope_alike : (b : ℕ) → given_scope two (to b) ≡ given_scope one b
-  unfolding given_scope
-  scope_alike b = ap (λ o. option_and_then scope_in (option_and_then (form_at two) o)) (m.gives b attribute.Scope) ∙ ap (option_and_then scope_in) (block_alike (given one b attribute.Scope))
-
-  scope_of_any : (o : Option ℕ) → option_and_then (given_scope two) (option_map to o) ≡ option_and_then (given_scope one) o
-  scope_of_any None = refl
-  scope_of_any (Some b) = scope_alike b
 
   pub effective_scope_alike : (b : ℕ) (device : Option ℕ) → effective_scope two (to b) (option_map to device) ≡ effective_scope one b device
   unfolding effective_scope

@@ -24,7 +24,7 @@ use Rattle.wdf_plan.specs.Parts.{agent, app_agent, app_post, app_post_in, class_
 use Rattle.law_order.proofs.Inserted.{IsInserted, gathered}
 use Rattle.law_order.proofs.Moves.{block_alike, effective_alike, effective_scope_alike, has_given_alike, moved_names, moved_placed}
 use Rattle.law_order.proofs.Numbers.{act_alike, handle_alike, name_alike, number_alike}
-use Rattle.law_order.proofs.Refusals.{is_of_order}
+use Rattle.law_order.proofs.Refusals.{in_order, is_of_order}
 
 module _ (to : ℕ → ℕ) (same : (a b : Option ℕ) → same_option ◌==◌ (option_map to a) (option_map to b) ≡ same_option ◌==◌ a b) (names : List Declaration) where
   interrupt_alike : (order : ℕ) (n : List ℕ) (l : InterruptLevel) → interrupt_info (moved_names to names) order n l ≡ interrupt_info names order n l
@@ -93,74 +93,44 @@ no_post false o e = refl
 module _ (names : List Declaration) where
   pub no_register : (p : Placed) (f : SceneLine) → is_of_order f ≡ true → register_on names p f ≡ None
   unfolding register_on
-  no_register p line.Order h = refl
-  no_register p line.Picks h = refl
-  no_register p line.End h = refl
-  no_register p _ h = absurd (let z : ⊥ = cc in z)
+  no_register p = in_order (λ f. register_on names p f ≡ None) refl refl refl
 
   pub no_when : (number : ℕ) (device : Option ℕ) (f : SceneLine) → is_of_order f ≡ true → when_on names number device f ≡ None
   unfolding when_on
-  no_when number device line.Order h = refl
-  no_when number device line.Picks h = refl
-  no_when number device line.End h = refl
-  no_when number device _ h = absurd (let z : ⊥ = cc in z)
+  no_when number device = in_order (λ f. when_on names number device f ≡ None) refl refl refl
 
   pub no_pnp : (number : ℕ) (f : SceneLine) → is_of_order f ≡ true → pnp_post names number f ≡ None
   unfolding pnp_post
-  no_pnp number line.Order h = refl
-  no_pnp number line.Picks h = refl
-  no_pnp number line.End h = refl
-  no_pnp number _ h = absurd (let z : ⊥ = cc in z)
+  no_pnp number = in_order (λ f. pnp_post names number f ≡ None) refl refl refl
 
   no_app_post : (number : ℕ) (f : SceneLine) → is_of_order f ≡ true → app_post names number f ≡ None
   unfolding app_post
-  no_app_post number line.Order h = refl
-  no_app_post number line.Picks h = refl
-  no_app_post number line.End h = refl
-  no_app_post number _ h = absurd (let z : ⊥ = cc in z)
+  no_app_post number = in_order (λ f. app_post names number f ≡ None) refl refl refl
 
   no_device_post : (number : ℕ) (device : Option ℕ) (f : SceneLine) → is_of_order f ≡ true → device_post names number device f ≡ None
   unfolding device_post
-  no_device_post number device line.Order h = refl
-  no_device_post number device line.Picks h = refl
-  no_device_post number device line.End h = refl
-  no_device_post number device _ h = absurd (let z : ⊥ = cc in z)
+  no_device_post number device = in_order (λ f. device_post names number device f ≡ None) refl refl refl
 
   pub no_target : (f : SceneLine) → is_of_order f ≡ true → target_agent names f ≡ None
   unfolding target_agent
-  no_target line.Order h = refl
-  no_target line.Picks h = refl
-  no_target line.End h = refl
-  no_target _ h = absurd (let z : ⊥ = cc in z)
+  no_target = in_order (λ f. target_agent names f ≡ None) refl refl refl
 
   module _ (s : Scene) where
     pub no_object : (p : Placed) (b : ℕ) (f : SceneLine) → is_of_order f ≡ true → object_of s names p b f ≡ None
     unfolding object_of
-    no_object p b line.Order h = refl
-    no_object p b line.Picks h = refl
-    no_object p b line.End h = refl
-    no_object p b _ h = absurd (let z : ⊥ = cc in z)
+    no_object p b = in_order (λ f. object_of s names p b f ≡ None) refl refl refl
 
     pub no_class : (p : Placed) (f : SceneLine) → is_of_order f ≡ true → class_on s names p f ≡ None
     unfolding class_on
-    no_class p line.Order h = refl
-    no_class p line.Picks h = refl
-    no_class p line.End h = refl
-    no_class p _ h = absurd (let z : ⊥ = cc in z)
+    no_class p = in_order (λ f. class_on s names p f ≡ None) refl refl refl
 
     pub no_app : (p : Placed) (f : SceneLine) → is_of_order f ≡ true → app_agent s names p f ≡ None
     unfolding app_agent
-    no_app p line.Order h = refl
-    no_app p line.Picks h = refl
-    no_app p line.End h = refl
-    no_app p _ h = absurd (let z : ⊥ = cc in z)
+    no_app p = in_order (λ f. app_agent s names p f ≡ None) refl refl refl
 
     pub no_device : (p : Placed) (f : SceneLine) → is_of_order f ≡ true → device_agent s names p f ≡ None
     unfolding device_agent
-    no_device p line.Order h = refl
-    no_device p line.Picks h = refl
-    no_device p line.End h = refl
-    no_device p _ h = absurd (let z : ⊥ = cc in z)
+    no_device p = in_order (λ f. device_agent s names p f ≡ None) refl refl refl
 
 -- ---- objects, classes and agents
 

@@ -1,36 +1,20 @@
 -- Whether a line is refused is the same where the lines are at other places, but for the limit of picks.
-use Rattle.std.proofs.Common.{◌≡◌, ℕ, ◌-◌, Bool, true, false, cond, not, ◌&&◌, ◌||◌, nat_le, arith, List, [], ◌∷◌, find, take, drop, Option, Some, None, is_some, option_map, refl, sym, ap, ◌∙◌}
+use Rattle.std.proofs.Common.{◌≡◌, ℕ, ◌-◌, Bool, true, false, cond, not, ◌||◌, nat_le, arith, List, [], ◌∷◌, find, take, drop, Option, Some, None, option_map, refl, sym, ap, ◌∙◌}
 use Rattle.std.specs.Prelude.{option_and_then}
-use Rattle.std.specs.List.{list_any}
 use Rattle.std.specs.Option.{option_or}
-use Rattle.wdf_base.specs.Calls.{signature_of}
-use Rattle.wdf_base.specs.Callbacks.{row_of}
-use Rattle.wdf_base.specs.Resolved.{function_of, is_from, serial_level}
-use Rattle.wdf_base.specs.declared.call.Callback.TheVariants as callback
-use Rattle.wdf_base.specs.declared.declared.DeferredKind.{DeferredKind}
-use Rattle.wdf_base.specs.declared.signature.Sort.{Sort}
-use Rattle.wdf_base.specs.declared.signature.Sort.TheVariants as sort
-use Rattle.wdf_scene.specs.declared.line.SceneAction.{SceneAction}
-use Rattle.wdf_scene.specs.declared.line.SceneAction.TheVariants as action
-use Rattle.wdf_scene.specs.declared.line.SceneArg.{SceneArg}
-use Rattle.wdf_scene.specs.declared.line.SceneArg.TheVariants as arg
-use Rattle.wdf_scene.specs.declared.line.SceneExpr.{SceneExpr}
-use Rattle.wdf_scene.specs.declared.line.SceneExpr.TheVariants as expr
+use Rattle.wdf_base.specs.Resolved.{is_from}
 use Rattle.wdf_scene.specs.declared.line.SceneLine.{SceneLine}
 use Rattle.wdf_scene.specs.declared.line.SceneLine.TheVariants as line
 use Rattle.wdf_scene.specs.declared.scene.Scene.{Scene}
 use Rattle.wdf_scene.specs.Naming.{declared_name}
 use Rattle.wdf_blocks.specs.declared.attribute.Attribute.{Attribute}
-use Rattle.wdf_blocks.specs.declared.attribute.Attribute.TheVariants as attribute
 use Rattle.wdf_blocks.specs.declared.declaration.Declaration.{Declaration}
 use Rattle.wdf_blocks.specs.declared.declaration.Wanted.{Wanted}
-use Rattle.wdf_blocks.specs.declared.declaration.Wanted.TheVariants as wanted
 use Rattle.wdf_blocks.specs.declared.placed.Placed.{Placed}
 use Rattle.wdf_blocks.specs.Attribute.{attribute_of, is_device_wide}
-use Rattle.wdf_blocks.specs.Blocks.{form_at, given, has_given}
-use Rattle.wdf_blocks.specs.Declarations.{has_name, is_parent_at, stands}
+use Rattle.wdf_blocks.specs.Blocks.{given}
+use Rattle.wdf_blocks.specs.Declarations.{has_name, stands}
 use Rattle.wdf_blocks.specs.Forms.{assigned_name, is_app, is_class, is_device, is_post, is_register, is_statement, nodes_end}
-use Rattle.wdf_blocks.specs.Variables.{variable_number}
 use Rattle.wdf_refusals.specs.declared.limit.Limit.{Limit}
 use Rattle.wdf_refusals.specs.declared.limit.Limit.TheVariants as limit
 use Rattle.wdf_refusals.specs.declared.limit.TheConstants.{LIMITS}
@@ -38,8 +22,9 @@ use Rattle.wdf_refusals.specs.declared.refusal.PlanRefusal.{PlanRefusal}
 use Rattle.wdf_refusals.specs.declared.refusal.PlanRefusal.TheVariants as refusal
 use Rattle.wdf_refusals.specs.First.{if_holds, if_over, if_twice, refused}
 use Rattle.wdf_refusals.specs.Limits.{exceeded, exceeds, over_cpus, over_depth, over_level, over_limit, over_objects, over_parallel, over_picks, over_ticks}
-use Rattle.wdf_refusals.specs.Rows.{block_is, earlier_line, first_line, given_line, has_callbacks, home, incompatible_level, is_deferred_block, is_timer_block, is_working_block, lacks_parent, no_parent, nodes_of, reserved_line, taken_line, twice_assigned, twice_attribute, twice_declared, twice_given, twice_named, unknown_action, unknown_argument, unknown_class, unknown_name, unknown_node, unknown_parent, unknown_word, unlike_block, unlike_parent, wrong_callback}
-use Rattle.law_bare.proofs.Lists.{any_map, any_same, find_map}
+use Rattle.wdf_refusals.specs.Rows.{earlier_line, first_line, given_line, home, incompatible_level, no_parent, nodes_of, reserved_line, taken_line, twice_assigned, twice_attribute, twice_declared, twice_given, twice_named, unknown_name, unknown_word, wrong_callback}
+use Rattle.law_bare.proofs.Lists.{find_map}
+use Rattle.law_bare.proofs.Scenes.{AreReadAlike, IsPlaceOf, callback_alike, incompatible_alike, no_parent_alike, unknown_alike}
 use Rattle.law_order.proofs.Moves.{IsMoved, block_alike, has_given_alike, moved_declared, moved_names, moved_placed, moved_wanted, objects_alike, parent_level_alike, stands_alike}
 
 -- ---- limits
@@ -87,103 +72,15 @@ module _ (to : ℕ → ℕ) (one two : Scene) (m : IsMoved to one two) (names : 
   same : (n : List ℕ) (w : Wanted) → stands (moved_names to names) n (moved_wanted to w) ≡ stands names n w
   same n w = stands_alike to m.same names n w
 
-  action_alike : (device : Option ℕ) (a : SceneAction) → unknown_action (moved_names to names) (option_map to device) a ≡ unknown_action names device a
-  unfolding unknown_action
-  action_alike device (action.Set r v) = ap not (same r (wanted.RegisterOf device))
-  action_alike device (action.Raise i) = ap not (same i (wanted.InterruptOf device))
-  action_alike device (action.Lower i) = ap not (same i (wanted.InterruptOf device))
-
-  class_alike : (s : Sort) (n : List ℕ) → unknown_class (moved_names to names) s n ≡ unknown_class names s n
-  unfolding unknown_class
-  class_alike (sort.Class k) n = ap not (same n (wanted.ClassOf k))
-  class_alike _ n = refl
-
-  argument_alike : (s : Sort) (a : SceneArg) → unknown_argument (moved_names to names) s a ≡ unknown_argument names s a
-  unfolding unknown_argument
-  argument_alike s (arg.OfClass n) = class_alike s n
-  argument_alike s _ = refl
-
-  parent_alike : (parent : Option (List ℕ)) → unknown_parent (moved_names to names) parent ≡ unknown_parent names parent
-  unfolding unknown_parent
-  parent_alike None = refl
-  parent_alike (Some n) = ap not (same n wanted.Anything)
-
-  word_alike : (device : Option ℕ) (form : SceneLine) → unknown_word (moved_names to names) (option_map to device) form ≡ unknown_word names device form
-  unfolding unknown_word
-  word_alike device (line.DeferredClass n k parent) = parent_alike parent
-  word_alike device (line.When access r a after) = rw (same r (wanted.RegisterOf device), action_alike device a) refl
-  word_alike device (line.At tick a) = action_alike device a
-  word_alike device (line.AtRead tick d n) = ap not (same d wanted.Device)
-  word_alike device (line.AtWrite tick d n) = ap not (same d wanted.Device)
-  word_alike device (line.AtControl tick d code n) = ap not (same d wanted.Device)
-  word_alike device (line.AtAsk tick ask d) = ap not (same d wanted.Device)
-  word_alike device (line.Get x r) = ap not (same r wanted.Register)
-  word_alike device (line.Put r e) = ap not (same r wanted.Register)
-  word_alike device (line.Call k into a b c) = rw (argument_alike (signature_of k).a a, argument_alike (signature_of k).b b, argument_alike (signature_of k).c c) refl
-  word_alike device _ = refl
-
-  node_alike : (variables : List (List ℕ)) (e : SceneExpr) → unknown_node (moved_names to names) variables e ≡ unknown_node names variables e
-  unfolding unknown_node
-  node_alike variables (expr.Named n) = ap (λ b. not (is_some (variable_number variables n)) && not b) (same n wanted.Object)
-  node_alike variables _ = refl
-
-  lacks_alike : (parent : Option (List ℕ)) → lacks_parent (moved_names to names) parent ≡ lacks_parent names parent
-  lacks_alike None = refl
-  lacks_alike (Some n) = rw (same n wanted.Anything, same n wanted.Parent) refl
-
-  no_parent_alike : (form : SceneLine) → no_parent (moved_names to names) form ≡ no_parent names form
-  unfolding no_parent
-  no_parent_alike (line.DeferredClass n k parent) = lacks_alike parent
-  no_parent_alike _ = refl
-
   pub nodes_alike : (n : ℕ) (p : Placed) → nodes_of two (moved_placed to n p) ≡ nodes_of one p
   unfolding nodes_of
   nodes_alike n p = ap (λ es. take (nodes_end p.counts.nodes p.form - p.counts.nodes) (drop p.counts.nodes es)) m.exprs
 
-  unknown_alike : (variables : List (List ℕ)) (n : ℕ) (p : Placed) → unknown_name two (moved_names to names) variables (moved_placed to n p) ≡ unknown_name one names variables p
-  unfolding unknown_name
-  unknown_alike variables n p =
-      ap (λ b. b || list_any (unknown_node (moved_names to names) variables) (nodes_of two (moved_placed to n p))) (word_alike p.stand.device p.form)
-      ∙ ap (λ b. unknown_word names p.stand.device p.form || b)
-      (any_same (unknown_node (moved_names to names) variables) (unknown_node names variables) (node_alike variables) (nodes_of two (moved_placed to n p)) ∙ ap (list_any (unknown_node names variables)) (nodes_alike n p))
+  read : AreReadAlike (option_map to) to (moved_declared to) one two
+  read = record { block = block_alike to one two m; has = has_given_alike to one two m; parent = parent_level_alike to one two m }
 
-  -- ---- what a line's block is
-
-  block_test : (t u : SceneLine → Bool) → ((form : SceneLine) → t form ≡ u form) → (o : Option SceneLine) → (elim o as (λ _. Bool) [ None ↦ false | Some form ↦ t form ]) ≡ (elim o as (λ _. Bool) [ None ↦ false | Some form ↦ u form ])
-  block_test t u alike None = refl
-  block_test t u alike (Some form) = alike form
-
-  block_is_alike : (t u : SceneLine → Bool) → ((form : SceneLine) → t form ≡ u form) → (b : Option ℕ) → block_is t two (option_map to b) ≡ block_is u one b
-  block_is_alike t u alike b =
-      ap (λ (o : Option SceneLine). elim o as (λ _. Bool) [ None ↦ false | Some form ↦ t form ]) (block_alike to one two m b) ∙ block_test t u alike (option_and_then (form_at one) b)
-
-  callback_alike : (n : ℕ) (p : Placed) (form : SceneLine) → wrong_callback two (moved_placed to n p) form ≡ wrong_callback one p form
-  unfolding wrong_callback
-  callback_alike n p (line.On c) = ap not (block_is_alike (has_callbacks (row_of c).owner) (has_callbacks (row_of c).owner) (λ f. refl) p.stand.block)
-  callback_alike n p line.Serialize = ap not (block_is_alike is_deferred_block is_deferred_block (λ f. refl) p.stand.block)
-  callback_alike n p (line.Period t) = ap not (block_is_alike is_timer_block is_timer_block (λ f. refl) p.stand.block)
-  callback_alike n p (line.Interrupt i level) =
-      ap (λ b. not b || block_is is_working_block two (option_map to p.stand.device)) (has_given_alike to one two m p.at (attribute.On callback.EvtInterruptIsr))
-      ∙ ap (λ b. not (has_given one p.at (attribute.On callback.EvtInterruptIsr)) || b) (block_is_alike is_working_block is_working_block (λ f. refl) p.stand.device)
-  callback_alike n p (line.Target i delay status depth) = ap not (has_given_alike to one two m p.at (attribute.On callback.EvtRequestCompletion))
-  callback_alike n p (line.DeferredClass i k parent) = ap not (has_given_alike to one two m p.at (attribute.On (function_of k)))
-  callback_alike n p _ = refl
-
-  unlike_parent_alike : (k : DeferredKind) (n : List ℕ) → unlike_parent two (moved_names to names) k n ≡ unlike_parent one names k n
-  unfolding unlike_parent
-  unlike_parent_alike k n =
-      ap (λ b. b && not (list_any (is_parent_at two (serial_level k) n) (moved_names to names))) (same n wanted.Parent)
-      ∙ ap (λ b. stands names n wanted.Parent && not b) (any_map (moved_declared to) (is_parent_at one (serial_level k) n) (is_parent_at two (serial_level k) n) (parent_level_alike to one two m (serial_level k) n) names)
-
-  unlike_alike : (form : SceneLine) → unlike_block two (moved_names to names) form ≡ unlike_block one names form
-  unfolding unlike_block
-  unlike_alike (line.DeferredClass n k (Some parent)) = unlike_parent_alike k parent
-  unlike_alike _ = refl
-
-  incompatible_alike : (n : ℕ) (p : Placed) (form : SceneLine) → incompatible_level two (moved_names to names) (moved_placed to n p) form ≡ incompatible_level one names p form
-  unfolding incompatible_level
-  incompatible_alike n p line.Serialize = block_is_alike (unlike_block two (moved_names to names)) (unlike_block one names) unlike_alike p.stand.block
-  incompatible_alike n p _ = refl
+  moves : (n : ℕ) (p : Placed) → IsPlaceOf (option_map to) to p (moved_placed to n p)
+  moves n p = record { at = refl; block = refl; device = refl }
 
   -- ---- names and attributes that are given twice
 
@@ -263,7 +160,14 @@ module _ (to : ℕ → ℕ) (one two : Scene) (m : IsMoved to one two) (names : 
   -- ---- a line is refused
 
   parts_alike : (variables : List (List ℕ)) (n : ℕ) (p : Placed) (o : Option PlanRefusal) → with_limit two (moved_names to names) variables (moved_placed to n p) o ≡ with_limit one names variables p o
-  parts_alike variables n p o = rw (unknown_alike variables n p, twice_alike n p, callback_alike n p p.form, incompatible_alike n p p.form, no_parent_alike p.form) refl
+  parts_alike variables n p o =
+      rw (
+        unknown_alike (option_map to) names (moved_names to names) same one two variables p (moved_placed to n p) refl refl (nodes_alike n p),
+        twice_alike n p,
+        callback_alike (option_map to) to (moved_declared to) one two read p (moved_placed to n p) (moves n p) p.form,
+        incompatible_alike (option_map to) to (moved_declared to) one two read names same p (moved_placed to n p) (moves n p) p.form,
+        no_parent_alike (option_map to) names (moved_names to names) same p.form,
+      ) refl
 
   -- a line that isn't refused at its new place isn't refused
   pub refused_before : (variables : List (List ℕ)) (n : ℕ) (p : Placed) → (over_picks (moved_placed to n p) ≡ false → over_picks p ≡ false) → refused two (moved_names to names) variables (moved_placed to n p) ≡ None → refused one names variables p ≡ None
@@ -291,12 +195,16 @@ is_of_order line.Picks = true
 is_of_order line.End = true
 is_of_order _ = false
 
+-- what holds of the three forms of its lines holds of each of them
+pub in_order : (P : SceneLine → Type 0) → P line.Order → P line.Picks → P line.End → (form : SceneLine) → is_of_order form ≡ true → P form
+in_order P order picks end line.Order h = order
+in_order P order picks end line.Picks h = picks
+in_order P order picks end line.End h = end
+in_order P order picks end _ h = absurd (let z : ⊥ = cc in z)
+
 pub nodes_stay : (n : ℕ) (form : SceneLine) → is_of_order form ≡ true → nodes_end n form ≡ n
 unfolding nodes_end
-nodes_stay n line.Order e = refl
-nodes_stay n line.Picks e = refl
-nodes_stay n line.End e = refl
-nodes_stay n _ e = absurd (let z : ⊥ = cc in z)
+nodes_stay n = in_order (λ f. nodes_end n f ≡ n) refl refl refl
 
 module _ (scene : Scene) (names : List Declaration) (variables : List (List ℕ)) where
   pub no_nodes : (p : Placed) → is_of_order p.form ≡ true → nodes_of scene p ≡ []
@@ -322,24 +230,15 @@ module _ (scene : Scene) (names : List Declaration) (variables : List (List ℕ)
 
   callback_in_order : (p : Placed) (form : SceneLine) → is_of_order form ≡ true → wrong_callback scene p form ≡ false
   unfolding wrong_callback
-  callback_in_order p line.Order h = refl
-  callback_in_order p line.Picks h = refl
-  callback_in_order p line.End h = refl
-  callback_in_order p _ h = absurd (let z : ⊥ = cc in z)
+  callback_in_order p = in_order (λ f. wrong_callback scene p f ≡ false) refl refl refl
 
   level_in_order : (p : Placed) (form : SceneLine) → is_of_order form ≡ true → incompatible_level scene names p form ≡ false
   unfolding incompatible_level
-  level_in_order p line.Order h = refl
-  level_in_order p line.Picks h = refl
-  level_in_order p line.End h = refl
-  level_in_order p _ h = absurd (let z : ⊥ = cc in z)
+  level_in_order p = in_order (λ f. incompatible_level scene names p f ≡ false) refl refl refl
 
   parent_in_order : (form : SceneLine) → is_of_order form ≡ true → no_parent names form ≡ false
   unfolding no_parent
-  parent_in_order line.Order h = refl
-  parent_in_order line.Picks h = refl
-  parent_in_order line.End h = refl
-  parent_in_order _ h = absurd (let z : ⊥ = cc in z)
+  parent_in_order = in_order (λ f. no_parent names f ≡ false) refl refl refl
 
   exceeded_in_order : (p : Placed) (form : SceneLine) → p.form ≡ form → is_of_order form ≡ true → over_picks p ≡ false → exceeded names variables p ≡ None
   unfolding exceeded exceeds over_cpus over_limit over_objects over_level over_parallel over_depth over_ticks is_device is_app is_register is_class is_statement is_post assigned_name

@@ -21,6 +21,8 @@ enum Act {
     From(u32, Option<u32>),
     /// The first member from an id on below another.
     Next(u32, u32, Option<u32>),
+    /// All members are taken out.
+    Clear,
 }
 
 /// Ids around the ends of words and blocks come in any order, below 9,001.
@@ -71,6 +73,48 @@ static TAKEN_OUT: [Act; 14] = [
     Act::Gap(63, 0, Some(64)),
 ];
 
+/// The words of 64 ids lose their members one by one, and later members are found past them, below 9,001.
+static EMPTIED: [Act; 38] = [
+    Act::Put(63, true),
+    Act::Put(64, true),
+    Act::Put(4095, true),
+    Act::Put(4096, true),
+    Act::Put(8192, true),
+    Act::From(0, Some(63)),
+    Act::Put(63, false),
+    Act::From(0, Some(64)),
+    Act::From(63, Some(64)),
+    Act::Put(64, false),
+    Act::Gap(64, 0, Some(4095)),
+    Act::Put(4095, false),
+    Act::From(0, Some(4096)),
+    Act::At(0, Some(4096)),
+    Act::At(1, Some(8192)),
+    Act::Put(4096, false),
+    Act::Gap(4096, 0, Some(8192)),
+    Act::Next(0, 8192, None),
+    Act::Next(0, 8193, Some(8192)),
+    Act::Put(64, true),
+    Act::At(0, Some(64)),
+    Act::From(65, Some(8192)),
+    Act::Put(8192, false),
+    Act::From(65, None),
+    Act::At(1, None),
+    Act::Put(64, false),
+    Act::Gap(0, 0, None),
+    Act::Put(4095, true),
+    Act::Put(450, true),
+    Act::Put(200, true),
+    Act::Member(0, 200),
+    Act::Member(1, 450),
+    Act::Member(2, 4095),
+    Act::Clear,
+    Act::Len(0),
+    Act::From(0, None),
+    Act::Put(4096, true),
+    Act::Member(0, 4096),
+];
+
 /// Whether the member with a number is this id.
 fn is_member(set: &IdSet, number: u32, id: u32) -> bool {
     set.contains(id)
@@ -94,6 +138,7 @@ fn does(set: &mut IdSet, bound: u32, act: Act) -> bool
         Act::At(number, due) => return set.at(number) == due,
         Act::From(id, due) => return set.from(id) == due,
         Act::Next(id, end, due) => return set.next(id, end) == due,
+        Act::Clear => set.clear(),
         _ => return false,
     }
     true
@@ -122,5 +167,12 @@ fn members_around_words_and_blocks(rt: HostRuntime) -> Result<(), Fail> {
 fn members_are_taken_out(rt: HostRuntime) -> Result<(), Fail> {
     let mut set = IdSet::make(rt.alloc(), 5000)?;
     assert_eq!(rt; first_wrong(&mut set, 5000, &TAKEN_OUT), None);
+    Ok(())
+}
+
+#[test]
+fn words_become_empty(rt: HostRuntime) -> Result<(), Fail> {
+    let mut set = IdSet::make(rt.alloc(), 9001)?;
+    assert_eq!(rt; first_wrong(&mut set, 9001, &EMPTIED), None);
     Ok(())
 }

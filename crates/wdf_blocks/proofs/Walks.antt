@@ -1,14 +1,15 @@
 -- The counts stay within the lines, and a walk goes on by one line.
-use Rattle.std.proofs.Common.{◌≡◌, ℕ, suc, ◌+◌, ◌-◌, ◌<◌, ◌≤◌, ◌^◌, Bool, true, false, cond, List, [], ◌∷◌, length, drop, get_or, Some, None, refl, arith, drop-cons, add-one}
+use Rattle.std.proofs.Common.{◌≡◌, ℕ, suc, ◌+◌, ◌-◌, ◌<◌, ◌≤◌, ◌^◌, Bool, true, false, cond, List, [], ◌∷◌, ◌++◌, length, drop, get_or, Some, None, refl, ap, arith, drop-cons, add-one, length-append}
 use Rattle.std.proofs.lemmas.List.{drop_all}
 use Rattle.wdf_scene.specs.declared.line.SceneLine.{SceneLine}
 use Rattle.wdf_scene.specs.declared.line.SceneLine.TheVariants as line
 use Rattle.wdf_scene.specs.declared.line.NumberedLine.{NumberedLine}
+use Rattle.wdf_scene.specs.declared.scene.Scene.{Scene}
 use Rattle.wdf_blocks.specs.declared.placed.Stand.{Stand}
 use Rattle.wdf_blocks.specs.declared.placed.Counts.{Counts}
 use Rattle.wdf_blocks.specs.declared.placed.Placed.{Placed}
 use Rattle.wdf_blocks.specs.Forms.{is_device, is_object, is_app, is_register, is_class, is_statement, is_post}
-use Rattle.wdf_blocks.specs.Placed.{outside, closed, closed_block, closed_in_callback, opened_by, one_more, counted, placed_line, placed_from}
+use Rattle.wdf_blocks.specs.Placed.{outside, nothing, placed, closed, closed_block, closed_in_callback, opened_by, one_more, counted, placed_line, placed_from}
 use Rattle.wdf_blocks.specs.Walk.{IsWithin}
 
 one_more_within : (n k : ℕ) (b : Bool) → n ≤ k → one_more n b ≤ suc k
@@ -73,3 +74,20 @@ pub within_walk : (lines slice : List NumberedLine) (k : ℕ) (o o' : Stand) (c 
 within_walk lines slice k o o' c c' form picks w same here fits stood counts =
     let here' : k < length lines = rw (← same) here in
     rw (stood, counts, add-one) (within_next lines k o c form picks w here' fits)
+
+-- ---- all lines are placed
+
+pub placed_length : (k : ℕ) (o : Stand) (c : Counts) (ls : List NumberedLine) → length (placed_from k o c ls) ≡ length ls
+unfolding placed_from
+placed_length k o c [] = refl
+placed_length k o c (l ∷ ls) =
+    ap suc (placed_length (suc k) (opened_by o k l.form) (counted c l.form (length l.picks)) ls)
+
+-- where one more is to come, there are fewer so far than lines
+pub placed_room : (scene : Scene) (so_far rest rest' : List Placed) (p : Placed) → length scene.lines < 2 ^ 32 → so_far ++ rest ≡ placed scene → rest ≡ p ∷ rest' → length so_far + 1 < 2 ^ 32
+unfolding placed
+placed_room scene so_far rest rest' p lines is next =
+    let all : length (so_far ++ rest) ≡ length scene.lines = rw is (placed_length 0 outside nothing scene.lines) in
+    let both : length (so_far ++ rest) ≡ length so_far + length rest = length-append so_far rest in
+    let more : length rest ≡ suc (length rest') = ap length next in
+    omega (arith, all, both, more, lines)

@@ -24,6 +24,6 @@ mod pieces;
 
 pub use endings::{ending_line, ending_word, wait_line};
 pub use line::{LINE_LIMIT, Line};
-pub use lines::line_of;
+pub use lines::{line_of, rewrite};
 pub use message::{Message, one_number, two_numbers};
 pub use pieces::name_bytes;

@@ -23,12 +23,19 @@ impl Model for Line {
 
 impl Line {
     /// An empty line.
-    pub(crate) fn new() -> Line
+    pub fn new() -> Line
         ensures { result ≡ [] }
     {
         Line {
             text: ArrayVec::new(),
         }
+    }
+
+    /// Nothing is left of the line.
+    pub(crate) fn clear(&mut self)
+        ensures { self.new ≡ [] }
+    {
+        self.text.clear();
     }
 
     /// The bytes of the line.

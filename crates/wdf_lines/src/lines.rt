@@ -215,13 +215,22 @@ fn push_event(line: &mut Line, plan: &Plan, event: &Event)
     }
 }
 
+/// Writes over a line: it becomes that of an event with this number, without its line feed.
+pub fn rewrite(line: &mut Line, plan: &Plan, number: usize, event: &Event)
+    ensures value { line.new ≡ line_text plan.now number event.now }
+    ensures small { length line.new < LINE_LIMIT }
+{
+    line.clear();
+    line.push_digits(number as u64);
+    push_event(line, plan, event);
+}
+
 /// The line of an event with this number, without its line feed.
 pub fn line_of(plan: &Plan, number: usize, event: &Event) -> Line
     ensures value { result ≡ line_text plan.now number event.now }
     ensures small { length result < LINE_LIMIT }
 {
     let mut line = Line::new();
-    line.push_digits(number as u64);
-    push_event(&mut line, plan, event);
+    rewrite(&mut line, plan, number, event);
     line
 }

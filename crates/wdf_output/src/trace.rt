@@ -14,7 +14,7 @@ use wdf_base::{Agent, Ending, Event, Plan, WaitLine};
 use wdf_core::Core;
 use wdf_exit::Exit;
 use wdf_io::{Failed, Sink, write_all};
-use wdf_lines::{LINE_LIMIT, Line, ending_line, line_of, wait_line};
+use wdf_lines::{LINE_LIMIT, Line, ending_line, rewrite, wait_line};
 
 /// Writes a line and its line feed, in one piece.
 ///
@@ -37,6 +37,7 @@ pub fn write_line<K: Sink>(sink: &mut K, mut line: Line) -> Result<(), Failed>
 fn add_event<K: Sink>(
     sink: &mut K,
     page: &mut Page,
+    line: &mut Line,
     plan: &Plan,
     number: usize,
     event: &Event,
@@ -47,7 +48,7 @@ fn add_event<K: Sink>(
     ensures never_falls { K.faults sink.old ≤ K.faults sink.new }
     ensures not_again { OnErr result (EndsRefused K.refused K.faults sink.old sink.new) }
 {
-    let mut line = line_of(plan, number, event);
+    rewrite(line, plan, number, event);
     line.push_line_feed();
     add_line(sink, page, line.bytes())
 }
@@ -61,9 +62,10 @@ fn write_events<A: Agent, K: Sink>(core: &Core<A>, sink: &mut K) -> Result<(), F
     ensures not_again { OnErr result (EndsRefused K.refused K.faults sink.old sink.new) }
 {
     let mut page = Page::new();
+    let mut line = Line::new();
     for k in 0..core.journal_len() {
         let event = core.journal_at(k);
-        match add_event(sink, &mut page, core.plan(), k + 1, &event) {
+        match add_event(sink, &mut page, &mut line, core.plan(), k + 1, &event) {
             Ok(()) => {}
             Err(failed) => return Err(failed),
         }

@@ -14,7 +14,7 @@ use wdf_base::{ExprNode, Items, MANY, Memory};
 use wdf_blocks::forms::nodes_end;
 use wdf_blocks::placed::Placed;
 use wdf_blocks::variables::{Variables, entered};
-use wdf_blocks::walk::Walk;
+use wdf_blocks::walk::Lines;
 use wdf_refusals::names::Names;
 use wdf_scene::{NumberedLine, Scene, SceneExpr};
 
@@ -81,7 +81,7 @@ fn add_line(
 /// The nodes of all expressions.
 pub fn all_nodes(
     alloc: Global,
-    scene: &Scene,
+    scene: &Lines,
     names: &Names,
 ) -> Result<Items<ExprNode, MANY>, Memory>
     requires fit { Every IsFitNode (flat_map (scripts.nodes_on scene.now names.now) (placed scene.now)) }
@@ -91,12 +91,13 @@ pub fn all_nodes(
     let mut nodes = Items::new(alloc);
     let mut callback = None;
     let mut variables = Variables::new(alloc);
-    let mut walk = Walk::new(scene);
+    let own = scene.scene();
+    let mut walk = scene.walk();
     while let Some(placed) = walk.next() {
         let next = placed.stand.callback;
-        variables = entered(alloc, scene, callback, variables, next)?;
+        variables = entered(alloc, own, callback, variables, next)?;
         callback = next;
-        add_line(scene, names, &variables, &placed, &mut nodes)?;
+        add_line(own, names, &variables, placed, &mut nodes)?;
     }
     Ok(nodes)
 }

@@ -18,6 +18,7 @@ use std::alloc::Global;
 use wdf_base::{AgentInfo, Declared, FEW, Items, MANY, Memory, Name, Plan};
 use wdf_blocks::block::form_at;
 use wdf_blocks::declaration::Declaration;
+use wdf_blocks::walk::Lines;
 use wdf_refusals::first::{declared, first_refusal};
 use wdf_refusals::heritage::Heritage;
 use wdf_refusals::names::Names;
@@ -77,11 +78,11 @@ fn all_objects(
 {
     let mut objects = Items::new(alloc);
     objects.push(Declared::Driver)?;
-    gather_after(heritage.scene(), &Objects { heritage, names }, &mut objects)?;
+    gather_after(heritage.lines(), &Objects { heritage, names }, &mut objects)?;
     Ok(objects)
 }
 
-fn all_agents(alloc: Global, scene: &Scene, names: &Names) -> Result<Items<AgentInfo, FEW>, Memory>
+fn all_agents(alloc: Global, scene: &Lines, names: &Names) -> Result<Items<AgentInfo, FEW>, Memory>
     requires { CanPlan scene.now names.now }
     ensures { IfOk result (λ a. a ≡ plans.all_agents scene.now names.now) }
 {
@@ -116,15 +117,16 @@ fn plan_with(alloc: Global, heritage: &Heritage, names: &Names) -> Result<Plan, 
     let objects = header_at(scene, 2) as u32;
     let all = all_names(alloc, names.as_slice())?;
     let declared = all_objects(alloc, heritage, names)?;
-    let classes = gather(alloc, scene, &Classes { scene, names })?;
-    let registers = gather(alloc, scene, &Registers { names })?;
-    let whens = gather(alloc, scene, &Whens { names })?;
-    let pnp = gather(alloc, scene, &PnpPosts { names })?;
-    let agents = all_agents(alloc, scene, names)?;
-    let exprs = all_nodes(alloc, scene, names)?;
+    let lines = heritage.lines();
+    let classes = gather(alloc, lines, &Classes { scene, names })?;
+    let registers = gather(alloc, lines, &Registers { names })?;
+    let whens = gather(alloc, lines, &Whens { names })?;
+    let pnp = gather(alloc, lines, &PnpPosts { names })?;
+    let agents = all_agents(alloc, lines, names)?;
+    let exprs = all_nodes(alloc, lines, names)?;
     let scripts = gather(
         alloc,
-        scene,
+        lines,
         &Scripts {
             alloc,
             heritage,
@@ -157,8 +159,9 @@ fn outcome(alloc: Global, scene: &Scene) -> Result<Result<Plan, PlanRefusal>, Me
 {
     let _lines = scene.lines.as_slice();
     let _nodes = scene.exprs.as_slice();
-    let names = declared(alloc, scene)?;
-    let heritage = Heritage::new(alloc, scene)?;
+    let lines = Lines::new(alloc, scene)?;
+    let names = declared(alloc, &lines)?;
+    let heritage = Heritage::new(alloc, &lines)?;
     match first_refusal(alloc, &heritage, &names)? {
         Some(refusal) => Ok(Err(refusal)),
         None => {

@@ -10,8 +10,8 @@ use Rattle.wdf_model.specs.Tables.{entry, flag}
 use Rattle.wdf_model.specs.parts.Power as power
 use Rattle.wdf_model.proofs.Counts.{count_cons}
 use Rattle.wdf_maps.specs.Counts.{AreCounted, is_at}
-use Rattle.wdf_maps.proofs.Counting.{any_counted, any_same}
-use Rattle.wdf_power.specs.Power.{device_at, due_at, unsettled_at}
+use Rattle.wdf_maps.proofs.Counting.{any_at, any_counted, any_same}
+use Rattle.wdf_power.specs.Power.{device_at, due_at, resume_of, unsettled_at}
 
 -- tests that agree count alike
 count_alike : {T : Type 0} (p q : T → Bool) → ((x : T) → p x ≡ q x) → (xs : List T) → count_by p xs ≡ count_by q xs
@@ -69,3 +69,12 @@ due_counted P counts d counted within =
     let p : Holding → Bool = λ h. is_at d (due_at P.queues h) in
     let e : entry 0 counts d ≡ count_by p P.holdings = counted.count d within in
     ap (nat_lt 0) e ∙ any_counted p P.holdings ∙ due_found P d
+
+-- what is counted at the id 0 has a resume that is due
+at_zero : (due : Bool) → is_at 0 (if due then Some (record { 0 = 0 }) else None) ≡ due
+at_zero false = refl
+at_zero true = refl
+
+pub resume_counted : (P : power.Power) (counts : List ℕ) → AreCounted resume_of P.holdings counts → nat_lt 0 (entry 0 counts 0) ≡ list_any (λ h. h.resume_due) P.holdings
+resume_counted P counts counted =
+    any_at resume_of (λ h. h.resume_due) P.holdings counts 0 (omega arith) counted (λ h. at_zero h.resume_due)

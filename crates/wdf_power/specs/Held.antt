@@ -8,7 +8,7 @@ use Rattle.wdf_model.specs.parts.Power.{Power, no_holding}
 use Rattle.wdf_maps.specs.Counts.{AreCounted}
 use Rattle.wdf_ilist.specs.Family.{is_on, list_at}
 use Rattle.wdf_power.specs.declared.holdings.Holdings.TheInside.{Inside}
-use Rattle.wdf_power.specs.Power.{due_at, held_list, is_list, unsettled_at}
+use Rattle.wdf_power.specs.Power.{due_at, held_list, is_list, resume_of, unsettled_at}
 
 -- how far the requests have come
 abbrev pub holdings_in : Inside → Power
@@ -20,6 +20,7 @@ pub record IsSound (a : Inside) : Type 0 where
   pub within : length a.all.items ≤ OBJECTS
   pub unsettled : AreCounted (unsettled_at a.queues.items) a.all.items a.unsettled
   pub due : AreCounted (due_at a.queues.items) a.all.items a.due
+  pub resumes : AreCounted resume_of a.all.items a.resumes
 
 -- The lists have the requests that are held, by device.
 pub record AreListed (queues : List QueuePower) (all : List Holding) (lists : List (List ℕ)) : Type 0 where

@@ -23,6 +23,10 @@ unsettled_at queues h = if is_held h && not h.acknowledged then Some (device_at 
 abbrev pub due_at : List QueuePower → Holding → Option ObjectId
 due_at queues h = if is_held h && h.resume_due then Some (device_at queues h) else None
 
+-- the id 0 where a resume is due for a request
+abbrev pub resume_of : Holding → Option ObjectId
+resume_of h = if h.resume_due then Some (record { 0 = 0 }) else None
+
 -- the power of an id at the opening
 abbrev pub opening_device_at : Plan → ℕ → DevicePower
 opening_device_at plan d = opening_device_power (device_of plan d)

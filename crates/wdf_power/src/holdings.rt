@@ -4,7 +4,7 @@ ghost use Rattle.wdf_maps.specs.Counts.{is_at};
 ghost use Rattle.wdf_model.specs.Tables.{entry, least, lesser, put};
 ghost use Rattle.wdf_model.specs.parts.Power as power;
 ghost use Rattle.wdf_power.specs.Held.{AreListed};
-ghost use Rattle.wdf_power.specs.Power.{device_list, due_at, held_list, opening_holdings, unsettled_at};
+ghost use Rattle.wdf_power.specs.Power.{device_list, due_at, held_list, opening_holdings, resume_of, unsettled_at};
 
 use crate::opening::{opening_queues, write_queues};
 use std::alloc::Global;
@@ -41,6 +41,8 @@ pub(crate) struct Holdings {
     unsettled: Counts,
     /// For how many requests a resume is due, by device.
     due: Counts,
+    /// For how many a resume is due, on whatever device: counted at the id 0.
+    resumes: Counts,
 }
 
 impl Model for Holdings {
@@ -79,6 +81,17 @@ fn due_at(queues: &[QueuePower], holding: &Holding) -> Option<ObjectId>
 {
     if is_held(holding) && holding.resume_due {
         Some(entry_at(queues, NO_QUEUE_POWER, holding.queue.0).device)
+    } else {
+        None
+    }
+}
+
+/// The id 0 where a resume is due for a request.
+fn resume_of(holding: &Holding) -> Option<ObjectId>
+    ensures { result ≡ resume_of holding.now }
+{
+    if holding.resume_due {
+        Some(ObjectId(0))
     } else {
         None
     }
@@ -129,6 +142,7 @@ impl Holdings {
             all: Vec::with_capacity(alloc, OBJECTS as usize)?,
             unsettled: Counts::make(alloc)?,
             due: Counts::make(alloc)?,
+            resumes: Counts::make(alloc)?,
         })
     }
 
@@ -141,6 +155,7 @@ impl Holdings {
         self.all.clear();
         self.unsettled.clear();
         self.due.clear();
+        self.resumes.clear();
     }
 
     /// How far a request has come.
@@ -173,6 +188,7 @@ impl Holdings {
         );
         self.due
             .moves(due_at(&self.queues, &old), due_at(&self.queues, &new));
+        self.resumes.moves(resume_of(&old), resume_of(&new));
         put_at(&mut self.all, NO_HOLDING, r.0, new);
     }
 
@@ -197,6 +213,13 @@ impl Holdings {
         } else {
             some_due(&self.queues, &self.all, d)
         }
+    }
+
+    /// Whether a resume is due for some request.
+    pub(crate) fn some_resume_due(&self) -> bool
+        ensures { result ≡ list_any (λ h. h.resume_due) self.now.holdings }
+    {
+        0 < self.resumes.of(ObjectId(0))
     }
 
     /// Whether a request is held from a power-managed queue of a device, and isn't acknowledged.

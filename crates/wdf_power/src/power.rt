@@ -1,4 +1,5 @@
 ghost use Rattle.std.specs.Prelude.{◌≡◌, ◌+◌, ◌<◌, IfOk, IfSome, length, option_map};
+ghost use Rattle.std.specs.List.{list_any};
 ghost use Rattle.wdf_model.specs.Tables.{least, put};
 ghost use Rattle.wdf_model.specs.parts.Power as power;
 ghost use Rattle.wdf_power.specs.Power.{IsMoved};
@@ -231,6 +232,13 @@ impl Power {
         ensures { result ≡ power.any_resume_due self.now d.0 }
     {
         self.holdings.any_resume_due(d)
+    }
+
+    /// Whether a resume is due for some request, on whatever device.
+    pub fn some_resume_due(&self) -> bool
+        ensures { result ≡ list_any (λ h. h.resume_due) self.now.holdings }
+    {
+        self.holdings.some_resume_due()
     }
 }
 

@@ -9,6 +9,7 @@ pub mod Kept
 pub mod Cancels
 pub mod Own
 pub mod Straight
+pub mod AgentsPassed
 mod Undeclared
 pub mod Begins
 pub mod Counting

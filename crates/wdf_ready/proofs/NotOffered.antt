@@ -25,6 +25,7 @@ use Rattle.wdf_base.specs.Lives.{is_cleaned}
 use Rattle.wdf_base.specs.Callbacks.{dpc_function}
 use Rattle.wdf_model.proofs.Tests.{left_fails, not_true, right_fails}
 use Rattle.wdf_model.specs.Ids.{cpu_of}
+use Rattle.wdf_model.specs.declared.entries.Holding.{Holding}
 use Rattle.wdf_model.specs.declared.entries.Request.{Request}
 use Rattle.wdf_model.specs.declared.entries.Sending.{Sending}
 use Rattle.wdf_model.specs.declared.entries.Timed.{Timed}
@@ -37,7 +38,7 @@ use Rattle.wdf_model.specs.parts.Cpus.{Cpus, frame_of, irql, is_empty_cpu, level
 use Rattle.wdf_model.specs.parts.Deferred.Dpcs.{dpc_head}
 use Rattle.wdf_model.specs.parts.Deferred.Timers.{timer_due}
 use Rattle.wdf_model.specs.parts.Locks.{is_free_if_any, lock_of_callback}
-use Rattle.wdf_model.specs.parts.Power.{stop_was_asked}
+use Rattle.wdf_model.specs.parts.Power.{no_holding, resume_due, stop_was_asked}
 use Rattle.wdf_model.specs.parts.Queues.{front}
 use Rattle.wdf_model.specs.parts.Requests.{info_of, no_request}
 use Rattle.wdf_model.specs.parts.Targets.{the_target}
@@ -243,14 +244,15 @@ module _ {A : Type 0} (plan : Plan) (m : Meaning A) (S : State A) where
       (λ s e. not_above cpu callback.EvtRequestCompletion t (Some (handle_in plan S s.request.0)) 2 (omega arith) h)
   too_high_for cpu r o k h = not_above cpu (callback_for r) o (Some (handle_in plan S k)) (callback_irql plan (callback_for r) o) (omega arith) h
 
-  returns_none : (q : ℕ) (all : List Request) (k : ℕ) → list_any (λ (r : Request). is_returning_to q r.place) all ≡ false → is_returning_to q (entry no_request all k).place ≡ false
-  returns_none q [] k h = refl
-  returns_none q (r ∷ all) zero h = either_fails (is_returning_to q r.place) (list_any (λ (x : Request). is_returning_to q x.place) all) h
+  -- where no entry passes, none that is looked up does
+  entry_fails : {T : Type 0} (p : T → Bool) (blank : T) → p blank ≡ false → (all : List T) (k : ℕ) → list_any p all ≡ false → p (entry blank all k) ≡ false
+  entry_fails p blank none [] k h = none
+  entry_fails p blank none (x ∷ all) zero h = either_fails (p x) (list_any p all) h
     where
       either_fails : (a b : Bool) → (a || b) ≡ false → a ≡ false
       either_fails true b h = absurd (let z : ⊥ = cc in z)
       either_fails false b h = refl
-  returns_none q (r ∷ all) (suc k) h = returns_none q all k (both_fail (is_returning_to q r.place) (list_any (λ (x : Request). is_returning_to q x.place) all) h)
+  entry_fails p blank none (x ∷ all) (suc k) h = entry_fails p blank none all k (both_fail (p x) (list_any p all) h)
     where
       both_fail : (a b : Bool) → (a || b) ≡ false → b ≡ false
       both_fail true b h = absurd (let z : ⊥ = cc in z)
@@ -261,8 +263,12 @@ module _ {A : Type 0} (plan : Plan) (m : Meaning A) (S : State A) where
   stops_none false held asked settles h = refl
 
   never_due : (cpu : ℕ) (r : Rank) (o k : ℕ) → can_be_due plan S r o ≡ false → offered plan m S (group.StartsFor cpu r o) k ≡ None
-  never_due cpu rank.CanceledOnQueue q k h = not_due cpu rank.CanceledOnQueue q k (returns_none q S.requests.all k h)
+  never_due cpu rank.CanceledOnQueue q k h =
+      not_due cpu rank.CanceledOnQueue q k (entry_fails (λ (r : Request). is_returning_to q r.place) no_request refl S.requests.all k h)
   never_due cpu rank.Stop q k h = not_due cpu rank.Stop q k (stops_none (is_managed plan q) (is_held_from S q k) (stop_was_asked S.power k) (settles_next S (nearest_device S.tree q)) h)
+  never_due cpu rank.Resume q k h =
+      not_due cpu rank.Resume q k
+      (left_fails (resume_due S.power k) (is_held_from S q k) (entry_fails (λ (x : Holding). x.resume_due) no_holding refl S.power.holdings k h))
   never_due cpu _ o k h = absurd (let z : ⊥ = cc in z)
 
   no_start_for : (cpu : ℕ) (r : Rank) (o k : ℕ) → Fails (level_fits S cpu (callback_irql plan (callback_for r) o)) (can_be_due plan S r o) → offered plan m S (group.StartsFor cpu r o) k ≡ None

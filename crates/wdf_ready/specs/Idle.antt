@@ -13,6 +13,7 @@ use Rattle.wdf_base.specs.declared.rank.Rank.{Rank}
 use Rattle.wdf_base.specs.declared.rank.Rank.TheVariants as rank
 use Rattle.wdf_base.specs.Places.{is_returning_to}
 use Rattle.wdf_base.specs.Lives.{is_cleaned}
+use Rattle.wdf_model.specs.declared.entries.Holding.{Holding}
 use Rattle.wdf_model.specs.declared.entries.Request.{Request}
 use Rattle.wdf_model.specs.declared.entries.Sending.{Sending}
 use Rattle.wdf_model.specs.declared.entries.Timed.{Timed}
@@ -78,6 +79,7 @@ can_start_at S _ o = true
 abbrev pub can_be_due : {A : Type 0} → Plan → State A → Rank → ℕ → Bool
 can_be_due plan S rank.CanceledOnQueue q = list_any (λ (r : Request). is_returning_to q r.place) S.requests.all
 can_be_due plan S rank.Stop q = is_stopping plan S q
+can_be_due plan S rank.Resume q = list_any (λ (h : Holding). h.resume_due) S.power.holdings
 can_be_due plan S _ o = true
 
 -- ---- groups

@@ -11,7 +11,6 @@ use wdf_base::{Agent, Callback, Cpu, Event, Frame, ObjectId};
 use wdf_model::Group;
 use wdf_parts::Parts;
 use wdf_plan_index::IndexedPlan;
-use wdf_posts::{due_of, post_answer, post_fits};
 use wdf_starts::{callback_over, clean_ready, destroy_ready};
 use wdf_steps::waits_on;
 
@@ -38,25 +37,6 @@ pub(crate) fn cleanup_offered<A: Agent>(
     } else {
         None
     }
-}
-
-/// What an agent posts now, if it may come. It is what the agent has due, with the right answer, so it only has to fit.
-pub(crate) fn post_offered<A: Agent>(
-    plan: &IndexedPlan,
-    parts: &Parts<A>,
-    agent: u16,
-) -> Option<Event>
-    ensures { result ≡ search.offered plan.now A.meaning parts.now group.Posts agent }
-{
-    let post = due_of(parts, agent)?;
-    if !post_fits(plan, parts, agent, &post) {
-        return None;
-    }
-    Some(Event::Posted {
-        agent,
-        post,
-        answer: post_answer(plan, parts, agent, &post),
-    })
 }
 
 /// Whether the end of an object may come.

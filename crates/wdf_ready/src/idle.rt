@@ -61,13 +61,14 @@ fn is_stopping<A: Agent>(plan: &IndexedPlan, parts: &Parts<A>, q: ObjectId) -> b
 }
 
 /// Whether a callback of a rank for requests can be due on an object: EvtIoCanceledOnQueue where a request returns
-/// to the queue, EvtIoStop while the queue stops.
+/// to the queue, EvtIoStop while the queue stops, EvtIoResume where a resume is due for some request.
 fn can_be_due<A: Agent>(plan: &IndexedPlan, parts: &Parts<A>, rank: Rank, object: ObjectId) -> bool
     ensures { result ≡ idle.can_be_due plan.now parts.now rank object.0 }
 {
     match rank {
         Rank::CanceledOnQueue => parts.requests().returns_to(object),
         Rank::Stop => is_stopping(plan, parts, object),
+        Rank::Resume => parts.power().some_resume_due(),
         _ => true,
     }
 }

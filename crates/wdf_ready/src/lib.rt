@@ -13,6 +13,7 @@ mod endings;
 mod groups;
 mod idle;
 mod leaving;
+mod posts;
 mod search;
 mod sides;
 mod stale;

@@ -9,12 +9,11 @@ ghost use Rattle.wdf_ready.specs.Search as search;
 
 use crate::actor::is_by;
 use crate::candidates::{completion_at, parks, places_in, stage_at, start_for, unparks};
-use crate::direct::{
-    cleanup_offered, completion_offered, completions_len, end_offered, own_len, post_offered,
-};
+use crate::direct::{cleanup_offered, completion_offered, completions_len, end_offered, own_len};
 use crate::due::{next_due, next_startable};
 use crate::idle::is_idle;
 use crate::leaving::{Leaving, numbered_at, numbered_len};
+use crate::posts::{post_offered, posts_at, posts_len};
 use crate::started::start_offered;
 use wdf_base::{Actor, Agent, Cpu, Event, ObjectId, Rank};
 use wdf_model::Group;
@@ -157,7 +156,7 @@ fn leaving_len<A: Agent>(plan: &IndexedPlan, parts: &Parts<A>, leaving: Leaving)
 }
 
 /// How many events may come of a group's places. Completions are counted without a search, and so are cleanups,
-/// destructions and starts of work items where they are numbered.
+/// destructions and starts of work items where they are numbered. Posts are counted without making their events.
 pub(crate) fn offered_len<A: Agent>(plan: &IndexedPlan, parts: &Parts<A>, group: Group) -> usize
     requires agents { length parts.now.agents ≤ 2 ^ 16 }
     requires settled { IsSettled plan.now parts.now }
@@ -173,6 +172,7 @@ pub(crate) fn offered_len<A: Agent>(plan: &IndexedPlan, parts: &Parts<A>, group:
             cpu,
             rank: Rank::Work,
         } => leaving_len(plan, parts, Leaving::Work { cpu }),
+        Group::Posts => posts_len(plan, parts),
         _ => searched_len(plan, parts, group),
     }
 }
@@ -236,6 +236,7 @@ pub(crate) fn offered_at<A: Agent>(
             cpu,
             rank: Rank::Work,
         } => leaving_at(plan, parts, Leaving::Work { cpu }, k),
+        Group::Posts => posts_at(plan, parts, k),
         _ => searched_at(plan, parts, group, k),
     }
 }

@@ -1,5 +1,5 @@
 -- The numbers of names and objects, and the lengths of what is gathered, fit their types.
-use Rattle.std.proofs.Common.{◌≡◌, ℕ, suc, ◌+◌, ◌<◌, ◌≤◌, ◌^◌, Bool, true, false, cond, List, [], ◌∷◌, ◌++◌, length, find, Option, Some, None, IfSome, refl, ap, sym, ◌∙◌, arith, length-append}
+use Rattle.std.proofs.Common.{◌≡◌, ℕ, suc, ◌+◌, ◌<◌, ◌≤◌, ◌^◌, Bool, true, false, cond, List, [], ◌∷◌, ◌++◌, length, find, Option, Some, None, IfSome, refl, sym, ◌∙◌, arith, length-append}
 use Rattle.std.specs.List.{filter_map, cons_option}
 use Rattle.wdf_scene.specs.declared.line.NumberedLine.{NumberedLine}
 use Rattle.wdf_scene.specs.declared.line.SceneLine.{SceneLine}
@@ -16,6 +16,7 @@ use Rattle.wdf_refusals.specs.Numbered.{AreNumbered, HasFitOrder}
 use Rattle.wdf_blocks.specs.Forms.{is_app, is_class, is_device, is_object, is_register}
 use Rattle.wdf_refusals.specs.Names.{place_from}
 use Rattle.wdf_blocks.specs.Placed.{one_more, opened_by, counted, placed_line, placed_from, placed, outside, nothing}
+use Rattle.wdf_blocks.proofs.Walks.{placed_length}
 use Rattle.wdf_refusals.proofs.Every.{Every, every_append, every_kept, some_has}
 use Rattle.wdf_refusals.proofs.Gather.{IsGathered}
 use Rattle.wdf_refusals.proofs.Heads.{scene_head}
@@ -30,12 +31,6 @@ cons_at_most (Some t) ts n h = omega arith
 pub gathered_few : {P T : Type 0} (f : P → Option T) (ps : List P) → length (filter_map f ps) ≤ length ps
 gathered_few f [] = omega arith
 gathered_few f (p ∷ ps) = cons_at_most (f p) (filter_map f ps) (length ps) (gathered_few f ps)
-
-placed_length : (k : ℕ) (o : Stand) (c : Counts) (ls : List NumberedLine) → length (placed_from k o c ls) ≡ length ls
-unfolding placed_from
-placed_length k o c [] = refl
-placed_length k o c (l ∷ ls) =
-    ap suc (placed_length (suc k) (opened_by o k l.form) (counted c l.form (length l.picks)) ls)
 
 -- nor than there are lines
 pub lines_few : {T : Type 0} (scene : Scene) (f : Placed → Option T) → length (filter_map f (placed scene)) ≤ length scene.lines

@@ -18,7 +18,7 @@ use wdf_base::Memory;
 use wdf_blocks::declaration::{Declaration, declared_by};
 use wdf_blocks::placed::Placed;
 use wdf_blocks::variables::{Variables, entered};
-use wdf_blocks::walk::Walk;
+use wdf_blocks::walk::Lines;
 use wdf_scene::Scene;
 
 #[tactic(auto, unfolding(crate::specs::First::refused))]
@@ -69,15 +69,15 @@ fn add_declared(names: &mut Names, found: Option<Declaration>) -> Result<(), Mem
 /// # Errors
 ///
 /// [`Memory`] where memory was refused.
-pub fn declared(alloc: Global, scene: &Scene) -> Result<Names, Memory>
+pub fn declared(alloc: Global, scene: &Lines) -> Result<Names, Memory>
     requires { IsScene scene.now }
     ensures { IfOk result (λ n. n ≡ declarations scene.now) }
 {
-    let _lines = scene.lines.as_slice();
+    let _lines = scene.scene().lines.as_slice();
     let mut names = Names::new(alloc);
-    let mut walk = Walk::new(scene);
+    let mut walk = scene.walk();
     while let Some(placed) = walk.next() {
-        add_declared(&mut names, declared_by(&placed, &placed.form))?;
+        add_declared(&mut names, declared_by(placed, &placed.form))?;
     }
     Ok(names)
 }
@@ -97,12 +97,12 @@ pub fn first_refusal(
 {
     let mut callback = None;
     let mut variables = Variables::new(alloc);
-    let mut walk = Walk::new(heritage.scene());
+    let mut walk = heritage.lines().walk();
     while let Some(placed) = walk.next() {
         let next = placed.stand.callback;
         variables = entered(alloc, heritage.scene(), callback, variables, next)?;
         callback = next;
-        match refused(heritage, names, &variables, &placed) {
+        match refused(heritage, names, &variables, placed) {
             Some(refusal) => return Ok(Some(refusal)),
             None => {}
         }

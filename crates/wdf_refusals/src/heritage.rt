@@ -9,6 +9,7 @@ use std::marker::Model;
 use wdf_base::{ExecutionLevel, Items, MANY, Memory, Scope};
 use wdf_blocks::block::{driver_line, given_level, given_scope};
 use wdf_blocks::placed::Placed;
+use wdf_blocks::walk::Lines;
 use wdf_scene::{Scene, SceneLine};
 
 /// What the lines of a block give it; None where it inherits.
@@ -32,7 +33,7 @@ pub struct Effective {
 /// The scene, with what its devices, its queues and its `driver` block are given: each was looked up once.
 #[derive(Drop)]
 pub struct Heritage<'a> {
-    scene: &'a Scene,
+    scene: &'a Lines<'a>,
     /// For each line of a device or a queue what its block gives.
     blocks: Items<Option<Given>, MANY>,
     driver: Given,
@@ -114,20 +115,28 @@ impl<'a> Heritage<'a> {
     /// # Errors
     ///
     /// [`Memory`] where memory was refused.
-    pub fn new(alloc: Global, scene: &'a Scene) -> Result<Heritage<'a>, Memory>
+    pub fn new(alloc: Global, scene: &'a Lines<'a>) -> Result<Heritage<'a>, Memory>
         ensures { IfOk result (λ h. h ≡ scene.now) }
     {
-        let _lines = scene.lines.as_slice();
-        let blocks = gather(alloc, scene, &Kept { scene })?;
+        let own = scene.scene();
+        let _lines = own.lines.as_slice();
+        let blocks = gather(alloc, scene, &Kept { scene: own })?;
         Ok(Heritage {
             scene,
             blocks,
-            driver: driver_given(scene),
+            driver: driver_given(own),
         })
     }
 
     /// The scene whose levels and scopes these are.
     pub fn scene(&self) -> &'a Scene
+        ensures { result.now ≡ self.now }
+    {
+        self.scene.scene()
+    }
+
+    /// The scene with its lines placed.
+    pub fn lines(&self) -> &'a Lines<'a>
         ensures { result.now ≡ self.now }
     {
         self.scene
@@ -139,7 +148,7 @@ impl<'a> Heritage<'a> {
     {
         match item(self.blocks.as_slice(), block as usize) {
             Some(Some(given)) => given,
-            _ => given_in(self.scene, block),
+            _ => given_in(self.scene(), block),
         }
     }
 

@@ -100,8 +100,22 @@ impl Names {
         ensures value { result ≡ spec.found self.now name.now wanted }
         ensures small { IfSome result HasFitOrder }
     {
-        match self.first.get(name) {
-            Some(at) => found_from(self.declarations.as_slice(), *at as usize, name, wanted),
+        self.found_after(self.place(name), name, wanted)
+    }
+
+    /// What `found` answers, with the place of the first declaration of the name.
+    pub fn found_after(
+        &self,
+        place: Option<u32>,
+        name: &Name,
+        wanted: Wanted,
+    ) -> Option<Declaration>
+        requires { place ≡ place_from (spec.has_name name.now) 0 self.now }
+        ensures value { result ≡ spec.found self.now name.now wanted }
+        ensures small { IfSome result HasFitOrder }
+    {
+        match place {
+            Some(at) => found_from(self.declarations.as_slice(), at as usize, name, wanted),
             None => None,
         }
     }

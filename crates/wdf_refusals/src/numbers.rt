@@ -1,11 +1,12 @@
 //! The numbers that stand for names in a plan.
 ghost use Rattle.std.specs.Prelude.{◌≡◌, ◌++◌, ◌+◌, ◌<◌, ◌^◌, length, IfSome, OnOk};
 ghost use Rattle.std.specs.Option.{option_to_list};
+ghost use Rattle.wdf_refusals.specs.Numbered.{HasFitOrder};
 ghost use Rattle.wdf_refusals.specs.Numbers as spec;
 
 use crate::names::Names;
 use wdf_base::{Action, Handle, Items, Memory, Name, ObjectId};
-use wdf_blocks::declaration::Wanted;
+use wdf_blocks::declaration::{Declaration, Wanted};
 use wdf_scene::SceneAction;
 
 /// The id of the object before which so many were declared.
@@ -40,20 +41,30 @@ pub fn number_of(names: &Names, name: &Name, wanted: Wanted) -> u32
     ensures value { result ≡ spec.number_of names.now name.now wanted }
     ensures small { result + 2 < 2 ^ 32 }
 {
-    match names.found(name, wanted) {
+    order_of(names.found(name, wanted))
+}
+
+fn order_of(found: Option<Declaration>) -> u32
+    requires { IfSome found HasFitOrder }
+    ensures value { result ≡ spec.order_of found }
+    ensures small { result + 2 < 2 ^ 32 }
+{
+    match found {
         Some(declaration) => declaration.order,
         None => 0,
     }
 }
 
 /// The object that a name stands for.
-#[tactic(auto, unfolding(crate::specs::Numbers::handle_of))]
+#[tactic(auto, unfolding(crate::specs::Numbers::handle_of, crate::specs::Numbers::number_of, crate::specs::Numbers::name_number))]
 pub fn handle_of(names: &Names, name: &Name, wanted: Wanted) -> Handle
     ensures { result ≡ spec.handle_of names.now name.now wanted }
 {
+    let place = names.place(name);
+    let order = order_of(names.found_after(place, name, wanted));
     Handle {
-        id: id_of(number_of(names, name, wanted)),
-        name: name_number(names, name),
+        id: id_of(order),
+        name: numbered(place),
     }
 }
 

@@ -10,8 +10,7 @@ use crate::numbers::add_found;
 use std::alloc::Global;
 use wdf_base::{Items, Memory};
 use wdf_blocks::placed::Placed;
-use wdf_blocks::walk::Walk;
-use wdf_scene::Scene;
+use wdf_blocks::walk::Lines;
 
 /// What one list of the plan has of each line.
 pub trait Part {
@@ -34,7 +33,7 @@ pub trait Part {
 ///
 /// [`Memory`] where memory was refused. Nothing is said of the list then.
 pub fn gather_after<P: Part, const CEILING: u64>(
-    scene: &Scene,
+    scene: &Lines,
     part: &P,
     items: &mut Items<P::Item, CEILING>,
 ) -> Result<(), Memory>
@@ -43,9 +42,9 @@ pub fn gather_after<P: Part, const CEILING: u64>(
     requires room { length (items.old ++ filter_map (P.part part.now) (placed scene.now)) < CEILING }
     ensures { OnOk result (items.new ≡ items.old ++ filter_map (P.part part.now) (placed scene.now)) }
 {
-    let mut walk = Walk::new(scene);
+    let mut walk = scene.walk();
     while let Some(line) = walk.next() {
-        take_into(part, &line, items)?;
+        take_into(part, line, items)?;
     }
     Ok(())
 }
@@ -57,7 +56,7 @@ pub fn gather_after<P: Part, const CEILING: u64>(
 /// [`Memory`] where memory was refused.
 pub fn gather<P: Part, const CEILING: u64>(
     alloc: Global,
-    scene: &Scene,
+    scene: &Lines,
     part: &P,
 ) -> Result<Items<P::Item, CEILING>, Memory>
     requires fit { Every (P.fits part.now) (placed scene.now) }

@@ -2,4 +2,5 @@ pub mod Ranks
 mod Ones
 mod Passing
 mod Changes
+mod Noted
 pub mod Nexts

@@ -1,16 +1,17 @@
 -- The ones of a word are the members among its ids.
-use Rattle.std.proofs.Common.{ℕ, zero, suc, ◌≡◌, ◌≢◌, ◌⊎◌, ◌+◌, ◌-◌, ◌*◌, ◌/◌, ◌%◌, ◌^◌, ◌<◌, ◌≤◌, ◌==◌, Bool, false, List, length, replicate, slice_index, slice_set, get_or-set_same, get_or-set_other, length-set, add-one, add_comm, refl, sym, subst, ap, ◌∙◌, inl, inr, arith}
-use Rattle.std.specs.Int.{bit_at}
+use Rattle.std.proofs.Common.{ℕ, zero, suc, ◌≡◌, ◌≢◌, ◌⊎◌, ◌+◌, ◌-◌, ◌*◌, ◌/◌, ◌%◌, ◌^◌, ◌<◌, ◌≤◌, ◌==◌, Bool, false, List, length, replicate, slice_index, slice_set, get_or-set_same, get_or-set_other, length-set, add-one, add_comm, w64, refl, sym, subst, ap, ◌∙◌, inl, inr, arith}
+use Rattle.std.specs.Int.{bit_at, trailing_zeros}
 use Rattle.std.specs.Int.RustNames.{count_ones}
 use Rattle.std.specs.Int.Count.{ones_cat}
 use Rattle.std.proofs.lemmas.Bool.{cases_lt, cases_eq, ne_eqb}
 use Rattle.std.proofs.lemmas.List.{ext_get_or, get_or_past, get_or-replicate, length-replicate}
 use Rattle.std.proofs.lemmas.List.FromFn.{length-map-range_with_len, get_or-map-range_with_len}
 use Rattle.std.proofs.lemmas.Nat.{mod-pow-add, shr-shr}
-use Rattle.std.proofs.Math.Nat.{mod-eq_of_lt, one-mul}
+use Rattle.std.proofs.Math.Nat.{div-le_self, mod-eq_of_lt, one-mul}
 use Rattle.std.proofs.Math.Pow.{pow_pos, pow-lt}
-use Rattle.std.proofs.lemmas.Nat.Bits.{bit_at-lt, bit_at-zero}
+use Rattle.std.proofs.lemmas.Nat.Bits.{bit_at-lt, bit_at-trailing_zeros, bit_at-zero, bit_at_above}
 use Rattle.wdf_sets.specs.Members.{is_in, rank}
+use Rattle.wdf_sets.specs.Nexts.{IsNext, NoneFrom}
 use Rattle.wdf_sets.specs.Words.{bit_in, bits_of, Writes}
 use Rattle.wdf_sets.proofs.Ranks.{one, rank_more}
 
@@ -36,6 +37,9 @@ pub in_bits : (words : List ℕ) (id : ℕ) → is_in id (bits_of words) ≡ bit
 in_bits words id = in_by words id (cases_lt id (64 * length words))
 
 -- ---- the ones of a word
+
+pub no_one : (n : ℕ) → n ≡ 0 → (n == 1) ≡ false
+no_one n e = ne_eqb n 1 (λ h. absurd (omega arith))
 
 one_of_bit : (n : ℕ) → n < 2 → one (n == 1) ≡ n
 one_of_bit zero h = refl
@@ -86,19 +90,72 @@ ones_of_word words k start at h =
     in_bits words (start + j) ∙ ap (λ q. bit_at (slice_index words q) ((start + j) % 64) == 1) quotient ∙ ap (λ r. bit_at word r == 1) rest in
     ones_are (bits_of words) word start 64 (omega arith) bits
 
+-- a bit of what a word has from an id on
+rest_of_word : (words : List ℕ) (start j : ℕ) → start % 64 + j < 64 → is_in (start + j) (bits_of words) ≡ (bit_at (slice_index words (start / 64) / 2 ^ (start % 64)) j == 1)
+rest_of_word words start j l =
+    let word = slice_index words (start / 64) in
+    let quotient : (start + j) / 64 ≡ start / 64 = omega arith in
+    let rest : (start + j) % 64 ≡ start % 64 + j = omega arith in
+    in_bits words (start + j) ∙ ap (λ q. bit_at (slice_index words q) ((start + j) % 64) == 1) quotient ∙ ap (λ r. bit_at word r == 1) rest
+    ∙ sym (ap (λ w. w % 2 == 1) (shr-shr word (start % 64) j))
+
 -- the ones of a part of a word are the members among its ids
 pub ones_of_part : (words : List ℕ) (start width : ℕ) → start / 64 < length words → start % 64 + width ≤ 64
     → count_ones (slice_index words (start / 64) / 2 ^ (start % 64) % 2 ^ width) + rank start (bits_of words) ≡ rank (start + width) (bits_of words)
 ones_of_part words start width h within =
-    let word = slice_index words (start / 64) in
     let long : length (bits_of words) ≡ 64 * length words = length_bits words in
-    let bits : (j : ℕ) → j < width → is_in (start + j) (bits_of words) ≡ (bit_at (word / 2 ^ (start % 64)) j == 1)
-    = λ j l.
-    let quotient : (start + j) / 64 ≡ start / 64 = omega arith in
-    let rest : (start + j) % 64 ≡ start % 64 + j = omega arith in
-    in_bits words (start + j) ∙ ap (λ q. bit_at (slice_index words q) ((start + j) % 64) == 1) quotient ∙ ap (λ r. bit_at word r == 1) rest
-    ∙ sym (ap (λ w. w % 2 == 1) (shr-shr word (start % 64) j)) in
-    ones_are (bits_of words) (word / 2 ^ (start % 64)) start width (omega arith) bits
+    ones_are (bits_of words) (slice_index words (start / 64) / 2 ^ (start % 64)) start width (omega arith) (λ j l. rest_of_word words start j (omega arith))
+
+-- ---- the first one of a word from an id on
+
+module _ (words : List ℕ) (id : ℕ) where
+  -- what the word has from the id on
+  abbrev left : ℕ
+  left = slice_index words (id / 64) / 2 ^ (id % 64)
+
+  bit_left : (x : ℕ) → id ≤ x → x < 64 * (id / 64) + 64 → is_in x (bits_of words) ≡ (bit_at left (x - id) == 1)
+  bit_left x above below =
+      let same : id + (x - id) ≡ x = omega arith in
+      subst (λ y. is_in y (bits_of words) ≡ (bit_at left (x - id) == 1)) same (rest_of_word words id (x - id) (omega arith))
+
+  none_left : left ≡ 0 → NoneFrom (λ x. is_in x (bits_of words)) id (64 * (id / 64) + 64)
+  none_left e x above below = bit_left x above below ∙ ap (λ w. bit_at w (x - id) == 1) e ∙ no_bit (x - id)
+
+  -- a word has no bit past its own
+  fits_by : (place : ℕ) → slice_index words (id / 64) < 2 ^ 64 → bit_at left place ≡ 1 → (id % 64 + place < 64) ⊎ (64 ≤ id % 64 + place) → id % 64 + place < 64
+  fits_by place small e (inl l) = l
+  fits_by place small e (inr g) =
+      let word = slice_index words (id / 64) in
+      let none : bit_at word (id % 64 + place) ≡ 0 = bit_at_above word 64 (id % 64 + place) small g in
+      let same : bit_at left place ≡ bit_at word (id % 64 + place) = ap (λ w. w % 2) (shr-shr word (id % 64) place) in
+      absurd (omega arith)
+
+  first_left : slice_index words (id / 64) < 2 ^ 64 → 0 < left → IsNext (λ x. is_in x (bits_of words)) id (64 * (id / 64) + 64) (id + trailing_zeros w64 left)
+  first_left small some_left =
+      let less : left ≤ slice_index words (id / 64) = div-le_self (slice_index words (id / 64)) (2 ^ (id % 64)) in
+      let lowest = bit_at-trailing_zeros w64 left some_left (omega arith) in
+      let place : ℕ = trailing_zeros w64 left in
+      let within : id % 64 + place < 64 = fits_by place small lowest.1 (cases_lt (id % 64 + place) 64) in
+      record {
+        after = omega arith;
+        within = omega arith;
+        passes = rest_of_word words id place within ∙ ap (λ n. n == 1) lowest.1;
+        before = λ x above below. bit_left x above (omega arith) ∙ no_one (bit_at left (x - id)) (lowest.2 (x - id) (omega arith));
+      }
+
+-- the same of a word that was read
+module _ (words : List ℕ) (id word : ℕ) (read : word ≡ slice_index words (id / 64)) where
+  pub none_read : word / 2 ^ (id % 64) ≡ 0 → NoneFrom (λ x. is_in x (bits_of words)) id (64 * (id / 64) + 64)
+  none_read e = none_left words id (ap (λ w. w / 2 ^ (id % 64)) (sym read) ∙ e)
+
+  pub first_read : word < 2 ^ 64 → 0 < word / 2 ^ (id % 64) → IsNext (λ x. is_in x (bits_of words)) id (64 * (id / 64) + 64) (id + trailing_zeros w64 (word / 2 ^ (id % 64)))
+  first_read small some_left =
+      subst (λ w. IsNext (λ x. is_in x (bits_of words)) id (64 * (id / 64) + 64) (id + trailing_zeros w64 (w / 2 ^ (id % 64)))) (sym read)
+      (first_left words id (subst (λ w. w < 2 ^ 64) read small) (subst (λ w. 0 < w / 2 ^ (id % 64)) read some_left))
+
+-- no id of later words is a member, where all of them are 0
+pub past_used : (words : List ℕ) (used : ℕ) → ((k : ℕ) → used ≤ k → slice_index words k ≡ 0) → (x : ℕ) → 64 * used ≤ x → is_in x (bits_of words) ≡ false
+past_used words used none x past = in_bits words x ∙ ap (λ w. bit_at w (x % 64) == 1) (none (x / 64) (omega arith)) ∙ no_bit (x % 64)
 
 -- ---- a bit is written
 
@@ -155,6 +212,3 @@ part_fits v width h =
     let some : 0 < 2 ^ width = pow_pos width in
     let less : 2 ^ width < 2 ^ 64 = pow-lt h in
     omega arith
-
-pub no_one : (n : ℕ) → n ≡ 0 → (n == 1) ≡ false
-no_one n e = ne_eqb n 1 (λ h. absurd (omega arith))

@@ -1,11 +1,15 @@
 -- A member is looked for by passing over parts that have too few: what the loops keep.
 use Rattle.std.proofs.Common.{ℕ, ◌≡◌, ◌+◌, ◌%◌, ◌<◌, ◌≤◌, Bool, List}
 use Rattle.wdf_sets.specs.Members.{rank}
+use Rattle.wdf_sets.specs.Parts.{number_of}
+use Rattle.wdf_sets.specs.declared.bits.Part.{Part}
 
--- From one place and number of members left to another, at a multiple of a size.
-pub record Passes (bits : List Bool) (skipped start skipped' start' size : ℕ) : Type 0 where
-  pub number : skipped' + rank start' bits ≡ skipped + rank start bits
-  pub begins : start' % size ≡ 0
+-- The words of a block are passed over up to one.
+pub record Passes (bits : List Bool) (block : Part) (skipped start : ℕ) : Type 0 where
+  pub number : skipped + rank start bits ≡ number_of bits block
+  pub begins : start % 64 ≡ 0
+  pub low : block.start ≤ start
+  pub high : start < block.start + 512
 
 -- A part of a word is cut in two, and the member stays in it.
 pub record Narrows (bits : List Bool) (skipped start skipped' start' size : ℕ) : Type 0 where

@@ -201,7 +201,7 @@ members_where bits p n e past = same_filter (λ x. is_in x bits) p 0 (length bit
 
 -- ---- how many members a part of the ids has
 
-rank_step : (bits : List Bool) (x : ℕ) → rank (x + 1) bits ≡ rank x bits + one (is_in x bits)
+pub rank_step : (bits : List Bool) (x : ℕ) → rank (x + 1) bits ≡ rank x bits + one (is_in x bits)
 rank_step bits x = by (cases_lt x (length bits))
   where
     by : (x < length bits) ⊎ (length bits ≤ x) → rank (x + 1) bits ≡ rank x bits + one (is_in x bits)

@@ -1,5 +1,6 @@
-ghost use Rattle.std.specs.Prelude.{◌≡◌, ◌+◌, ◌*◌, ◌/◌, ◌%◌, ◌<◌, ◌≤◌, ◌^◌, IfOk, Some, count_ones, false, length, replicate, slice_get, slice_set};
+ghost use Rattle.std.specs.Prelude.{◌≡◌, ◌+◌, ◌*◌, ◌/◌, ◌%◌, ◌<◌, ◌≤◌, ◌^◌, IfOk, MatchOption, Some, count_ones, false, length, replicate, slice_get, slice_set};
 ghost use Rattle.wdf_sets.specs.Members.{is_in, members, rank};
+ghost use Rattle.wdf_sets.specs.Nexts.{IsNext, NoneFrom};
 ghost use Rattle.wdf_sets.specs.Parts.{HasMember, number_of};
 ghost use Rattle.wdf_sets.specs.Words.{Writes};
 
@@ -108,23 +109,32 @@ impl Bits {
         ones(word & ((1 << width) - 1))
     }
 
-    /// The word of the member that is looked for, in a block that has it.
-    pub(crate) fn word_of(&self, block: Part) -> Part
-        requires few { length self.now ≤ 2 ^ 31 }
-        requires block { HasMember self.now block 4096 }
-        ensures same { number_of self.now result ≡ number_of self.now block }
-        ensures word { HasMember self.now result 64 }
+    /// The first id from one on in its word that has a true bit.
+    pub(crate) fn first_in_word(&self, id: u32) -> Option<u32>
+        ensures { MatchOption result (NoneFrom (λ x. is_in x self.now) id (64 * (id / 64) + 64)) (λ found. IsNext (λ x. is_in x self.now) id (64 * (id / 64) + 64) found) }
     {
-        let mut start = block.start;
-        let mut skipped = block.skipped;
-        loop {
-            let count = self.count_word(start);
-            if skipped < count {
-                return Part { start, skipped };
-            }
-            skipped -= count;
-            start += WORD;
+        let word = self.words.get(id / WORD) >> (id % WORD);
+        if word == 0 {
+            None
+        } else {
+            Some(id + word.trailing_zeros())
         }
+    }
+
+    /// The first id from one on that has a true bit. This passes over whole words.
+    pub(crate) fn first_from(&self, id: u32) -> Option<u32>
+        requires few { length self.now ≤ 2 ^ 31 }
+        ensures { MatchOption result (NoneFrom (λ x. is_in x self.now) id (length self.now)) (λ found. IsNext (λ x. is_in x self.now) id (length self.now) found) }
+    {
+        if let Some(found) = self.first_in_word(id) {
+            return Some(found);
+        }
+        'search: for word in id / WORD + 1..self.words.used() {
+            if let Some(found) = self.first_in_word(WORD * word) {
+                return Some(found);
+            }
+        }
+        None
     }
 
     /// The member that is looked for, in a word that has it.

@@ -1,5 +1,6 @@
 ghost use Rattle.std.specs.Prelude.{◌≡◌, ◌+◌, ◌*◌, ◌/◌, ◌<◌, ◌≤◌, ◌^◌, IfOk, MatchOption, false, length, replicate, slice_get, slice_set};
 ghost use Rattle.std.specs.Int.{div_ceil};
+ghost use Rattle.wdf_sets.specs.Counted.{has_some};
 ghost use Rattle.wdf_sets.specs.Members.{is_in, members, rank};
 ghost use Rattle.wdf_sets.specs.Nexts.{IsNext, NoneFrom};
 ghost use Rattle.wdf_sets.specs.Parts.{HasMember, number_of};
@@ -10,17 +11,23 @@ use std::marker::Model;
 use wdf_base::Memory;
 
 /// How many ids are counted together.
-const BLOCK: u32 = 4096;
+const BLOCK: u32 = 512;
 
 /// How many words a block has.
-const BLOCK_WORDS: u32 = 64;
+const BLOCK_WORDS: u32 = 8;
 
-/// A set of ids below a bound. No call looks at each id: the members of each 4,096 ids are counted.
+/// The bound is rounded up to a multiple of this: as many ids have their words noted in one word.
+const ROUND: u32 = 4096;
+
+/// A set of ids below a bound. No call looks at each id: the members of each 512 ids are counted, and it is
+/// noted which words of 64 ids have some.
 ///
 /// Contracts see a list of bits, one for each id from 0.
 #[derive(Drop)]
 pub struct IdSet {
     bits: Bits,
+    /// Which words of the bits have a member.
+    words: Bits,
     /// How many members each block has.
     counts: Vec<u32>,
     /// How many members there are.
@@ -32,11 +39,11 @@ impl Model for IdSet {
 
     ghost Value = { List Bool };
 
-    ghost use Rattle.wdf_sets.specs.Counted.{IsCounted};
+    ghost use Rattle.wdf_sets.specs.Counted.{IsInOrder};
 
     ghost view = { λ s. s.bits };
 
-    ghost invariant = { IsCounted };
+    ghost invariant = { IsInOrder };
 }
 
 /// Nothing is counted in any block any more.
@@ -46,6 +53,18 @@ fn zero_counts(counts: &mut Vec<u32>)
     counts.as_mut_slice().fill(0);
 }
 
+/// Notes whether a word has a member.
+fn note_word(bits: &Bits, word: u32, words: &mut Bits)
+    requires there { word < length words.old }
+    requires small { 64 * word < 2 ^ 32 }
+    ensures { words.new ≡ slice_set words.old word (has_some word bits.now) }
+{
+    let some = bits.first_in_word(WORD * word).is_some();
+    if words.get(word) != some {
+        words.set(word, some);
+    }
+}
+
 impl IdSet {
     /// The empty set of ids below a bound, which is rounded up to a multiple of 4,096. All memory is
     /// taken here, and it is written only as far as ids are used. On [`Memory`] nothing is made.
@@ -53,10 +72,11 @@ impl IdSet {
         requires { bound < 2 ^ 31 }
         ensures { IfOk result (λ set. set ≡ replicate (4096 * div_ceil bound 4096) false) }
     {
-        let blocks = bound.div_ceil(BLOCK);
+        let rounds = bound.div_ceil(ROUND);
         Ok(IdSet {
-            bits: Bits::make(alloc, BLOCK_WORDS * blocks)?,
-            counts: vec![in alloc; 0; blocks as usize]?,
+            bits: Bits::make(alloc, ROUND / WORD * rounds)?,
+            words: Bits::make(alloc, rounds)?,
+            counts: vec![in alloc; 0; (ROUND / BLOCK * rounds) as usize]?,
             len: 0,
         })
     }
@@ -66,6 +86,7 @@ impl IdSet {
         ensures { self.new ≡ replicate (length self.old) false }
     {
         self.bits.clear();
+        self.words.clear();
         zero_counts(&mut self.counts);
         self.len = 0;
     }
@@ -93,6 +114,7 @@ impl IdSet {
             return;
         }
         self.bits.set(id, on);
+        note_word(&self.bits, id / WORD, &mut self.words);
         let count = &mut self.counts[(id / BLOCK) as usize];
         if on {
             *count += 1;
@@ -116,8 +138,8 @@ impl IdSet {
 
     /// How many members are below a block.
     fn before_block(&self, block: u32) -> u32
-        requires { 4096 * block ≤ length self.now }
-        ensures { result ≡ rank (4096 * block) self.now }
+        requires { 512 * block ≤ length self.now }
+        ensures { result ≡ rank (512 * block) self.now }
     {
         let mut below = 0;
         for counted in 0..block {
@@ -129,7 +151,7 @@ impl IdSet {
     /// How many members of an id's block are below its word.
     fn before_word(&self, id: u32) -> u32
         requires { id < length self.now }
-        ensures { result + rank (4096 * (id / 4096)) self.now ≡ rank (64 * (id / 64)) self.now }
+        ensures { result + rank (512 * (id / 512)) self.now ≡ rank (64 * (id / 64)) self.now }
     {
         let mut below = 0;
         for word in id / BLOCK * BLOCK_WORDS..id / WORD {
@@ -145,7 +167,10 @@ impl IdSet {
         if self.len <= k {
             return None;
         }
-        let word = self.bits.word_of(self.block_of(k));
+        if k == 0 {
+            return self.from(0);
+        }
+        let word = self.word_of(self.block_of(k));
         Some(self.bits.member_in(word))
     }
 
@@ -153,7 +178,16 @@ impl IdSet {
     pub fn from(&self, id: u32) -> Option<u32>
         ensures { result ≡ slice_get (members self.now) (rank id self.now) }
     {
-        self.at(self.before(id))
+        if self.len == 0 {
+            return None;
+        }
+        match self.bits.first_in_word(id) {
+            Some(found) => Some(found),
+            None => {
+                let word = self.words.first_from(id / WORD + 1)?;
+                self.bits.first_in_word(WORD * word)
+            }
+        }
     }
 
     /// The first member from an id on that is below an end, `None` where there is none.
@@ -170,7 +204,7 @@ impl IdSet {
     fn block_of(&self, k: u32) -> Part
         requires { k < rank (length self.now) self.now }
         ensures number { number_of self.now result ≡ k }
-        ensures block { HasMember self.now result 4096 }
+        ensures block { HasMember self.now result 512 }
         ensures few { length self.now ≤ 2 ^ 31 }
     {
         let mut block = 0;
@@ -182,6 +216,23 @@ impl IdSet {
         Part {
             start: BLOCK * block,
             skipped,
+        }
+    }
+    /// The word of the member that is looked for, in a block that has it.
+    fn word_of(&self, block: Part) -> Part
+        requires block { HasMember self.now block 512 }
+        ensures same { number_of self.now result ≡ number_of self.now block }
+        ensures word { HasMember self.now result 64 }
+    {
+        let mut start = block.start;
+        let mut skipped = block.skipped;
+        loop {
+            let count = self.bits.count_word(start);
+            if skipped < count {
+                return Part { start, skipped };
+            }
+            skipped -= count;
+            start = WORD * self.words.first_in_word(start / WORD + 1).unwrap();
         }
     }
 }

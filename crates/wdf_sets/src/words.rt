@@ -1,4 +1,4 @@
-ghost use Rattle.std.specs.Prelude.{◌≡◌, ◌<◌, IfOk, length, replicate, slice_index, slice_set};
+ghost use Rattle.std.specs.Prelude.{◌≡◌, ◌<◌, ◌≤◌, ℕ, IfOk, length, replicate, slice_index, slice_set};
 
 use std::alloc::Global;
 use std::marker::Model;
@@ -12,14 +12,14 @@ pub(crate) struct Words {
 }
 
 impl Model for Words {
-    ghost use Rattle.std.specs.Prelude.{ℕ, List, ◌≤◌, length, vec_capacity};
+    ghost use Rattle.std.specs.Prelude.{ℕ, List, ◌<◌, ◌≤◌, ◌^◌, length, vec_capacity};
     ghost use Rattle.wdf_ilist.specs.Padded.{padded};
 
     ghost Value = { List ℕ };
 
     ghost view = { λ w. padded w.written.items w.places };
 
-    ghost invariant = { λ w. (length w.written.items ≤ w.places) × (w.places ≤ vec_capacity w.written) };
+    ghost invariant = { λ w. (length w.written.items ≤ w.places) × (w.places ≤ vec_capacity w.written) × (w.places < 2 ^ 32) };
 }
 
 impl Words {
@@ -38,6 +38,14 @@ impl Words {
         ensures { result ≡ slice_index self.now word }
     {
         self.written.get(word as usize).copied().unwrap_or(0)
+    }
+
+    /// A number from which on all words are 0.
+    pub(crate) fn used(&self) -> u32
+        ensures none { (k : ℕ) → result ≤ k → slice_index self.now k ≡ 0 }
+        ensures within { result ≤ length self.now }
+    {
+        self.written.len() as u32
     }
 
     /// Writes the word with a number.

@@ -1,5 +1,5 @@
 -- The fixed words of the language.
-use Rattle.std.specs.Prelude.{List, ℕ, Option, find, codes}
+use Rattle.std.specs.Prelude.{◌==◌, if◌then◌else◌, List, [], ◌∷◌, ℕ, Option, find, codes}
 use Rattle.std.specs.Str.{bytes_eq}
 use Rattle.wdf_tokens.specs.declared.keyword.Keyword.{Keyword}
 use Rattle.wdf_tokens.specs.declared.keyword.Keyword.TheVariants as keyword
@@ -63,3 +63,31 @@ keyword_word keyword.Cancel = codes "cancel"
 -- the keyword that has this word
 unfoldable pub keyword_of : List ℕ → Option Keyword
 keyword_of word = find (λ x. bytes_eq (keyword_word x) word) KEYWORDS
+
+-- the keywords that begin with a letter
+unfoldable pub with_letter : ℕ → List Keyword
+with_letter c =
+    if c == 97 then keyword.At ∷ keyword.App ∷ keyword.After ∷ []
+    else (if c == 99 then keyword.Call ∷ keyword.Cancel ∷ keyword.Class ∷ keyword.Control ∷ keyword.Cpus ∷ []
+    else (if c == 100 then keyword.Device ∷ keyword.Default ∷ keyword.Driver ∷ []
+    else (if c == 101 then keyword.End ∷ keyword.Else ∷ []
+    else (if c == 102 then keyword.For ∷ []
+    else (if c == 103 then keyword.Get ∷ []
+    else (if c == 105 then keyword.Interrupt ∷ keyword.If ∷ keyword.Inherit ∷ []
+    else (if c == 108 then keyword.Let ∷ keyword.Log ∷ keyword.Limit ∷ keyword.Level ∷ keyword.Lower ∷ []
+    else (if c == 109 then keyword.Manual ∷ []
+    else (if c == 111 then keyword.On ∷ keyword.Objects ∷ keyword.Order ∷ keyword.Off ∷ []
+    else (if c == 112 then keyword.Picks ∷ keyword.Put ∷ keyword.Parallel ∷ keyword.Pnp ∷ keyword.Period ∷ keyword.Power ∷ keyword.Passive ∷ []
+    else (if c == 113 then keyword.Queue ∷ []
+    else (if c == 114 then keyword.Read ∷ keyword.Return ∷ keyword.Repeat ∷ keyword.Register ∷ keyword.Raise ∷ []
+    else (if c == 115 then keyword.Spend ∷ keyword.Set ∷ keyword.Scope ∷ keyword.Serialize ∷ keyword.Sequential ∷ []
+    else (if c == 116 then keyword.Target ∷ []
+    else (if c == 118 then keyword.Version ∷ []
+    else (if c == 119 then keyword.Write ∷ keyword.When ∷ keyword.Working ∷ []
+    else (if c == 122 then keyword.Zero ∷ []
+    else [])))))))))))))))))
+
+-- the keywords among which that with this word is
+abbrev pub alike : List ℕ → List Keyword
+alike [] = []
+alike (letter ∷ word) = with_letter letter

@@ -1,6 +1,7 @@
 //! The fixed words of the language.
-ghost use Rattle.std.specs.Prelude.{◌≡◌, ◌≤◌, length};
-ghost use Rattle.wdf_tokens.specs.Keywords.{keyword_word, keyword_of};
+ghost use Rattle.std.specs.Prelude.{◌≡◌, ◌≤◌, length, find};
+ghost use Rattle.std.specs.Str.{bytes_eq};
+ghost use Rattle.wdf_tokens.specs.Keywords.{keyword_word, keyword_of, with_letter, alike};
 
 /// A fixed word of the language.
 #[derive(Clone, Copy)]
@@ -171,6 +172,76 @@ const WORDS: [&str; 52] = [
     "cancel",
 ];
 
+/// The keywords that begin with this letter, those that most lines have first.
+#[tactic(auto, unfolding(crate::specs::Keywords::with_letter))]
+fn with_letter(letter: u8) -> &'static [Keyword]
+    ensures { result.now ≡ with_letter letter }
+{
+    match letter {
+        b'a' => &[Keyword::At, Keyword::App, Keyword::After],
+        b'c' => &[
+            Keyword::Call,
+            Keyword::Cancel,
+            Keyword::Class,
+            Keyword::Control,
+            Keyword::Cpus,
+        ],
+        b'd' => &[Keyword::Device, Keyword::Default, Keyword::Driver],
+        b'e' => &[Keyword::End, Keyword::Else],
+        b'f' => &[Keyword::For],
+        b'g' => &[Keyword::Get],
+        b'i' => &[Keyword::Interrupt, Keyword::If, Keyword::Inherit],
+        b'l' => &[
+            Keyword::Let,
+            Keyword::Log,
+            Keyword::Limit,
+            Keyword::Level,
+            Keyword::Lower,
+        ],
+        b'm' => &[Keyword::Manual],
+        b'o' => &[Keyword::On, Keyword::Objects, Keyword::Order, Keyword::Off],
+        b'p' => &[
+            Keyword::Picks,
+            Keyword::Put,
+            Keyword::Parallel,
+            Keyword::Pnp,
+            Keyword::Period,
+            Keyword::Power,
+            Keyword::Passive,
+        ],
+        b'q' => &[Keyword::Queue],
+        b'r' => &[
+            Keyword::Read,
+            Keyword::Return,
+            Keyword::Repeat,
+            Keyword::Register,
+            Keyword::Raise,
+        ],
+        b's' => &[
+            Keyword::Spend,
+            Keyword::Set,
+            Keyword::Scope,
+            Keyword::Serialize,
+            Keyword::Sequential,
+        ],
+        b't' => &[Keyword::Target],
+        b'v' => &[Keyword::Version],
+        b'w' => &[Keyword::Write, Keyword::When, Keyword::Working],
+        b'z' => &[Keyword::Zero],
+        _ => &[],
+    }
+}
+
+/// The keywords among which that with this word is, if there is one.
+fn alike(word: &[u8]) -> &'static [Keyword]
+    ensures { result.now ≡ alike word.now }
+{
+    match word.first() {
+        Some(letter) => with_letter(*letter),
+        None => &[],
+    }
+}
+
 impl Keyword {
     /// The word itself.
     pub fn word(self) -> &'static str
@@ -181,13 +252,20 @@ impl Keyword {
     }
 
     /// The keyword with this word, if there is one.
-    #[tactic(auto, unfolding(crate::specs::Keywords::keyword_of))]
+    #[tactic(auto, using(crate::proofs::KeywordLaws::found_alike))]
     pub fn from_word(word: &[u8]) -> Option<Keyword>
         ensures { result ≡ keyword_of word.now }
     {
-        KEYWORDS
-            .iter()
-            .copied()
-            .find(|x| x.word().as_bytes() == word)
+        with_word(alike(word), word)
     }
+}
+
+/// The first of some keywords with this word.
+fn with_word(keywords: &[Keyword], word: &[u8]) -> Option<Keyword>
+    ensures { result ≡ find (λ x. bytes_eq (keyword_word x) word.now) keywords.now }
+{
+    keywords
+        .iter()
+        .copied()
+        .find(|x| x.word().as_bytes() == word)
 }

@@ -53,7 +53,7 @@ struct Piece {
 fn is_plain(byte: u8) -> bool
     ensures { result ≡ is_plain byte }
 {
-    matches!(byte, b'\t' | b'\n' | b'\r' | b' '..=b'~')
+    matches!(byte, b' '..=b'~') || matches!(byte, b'\t' | b'\n' | b'\r')
 }
 
 fn is_blank(byte: u8) -> bool

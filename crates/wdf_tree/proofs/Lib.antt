@@ -8,3 +8,4 @@ pub mod Firsts
 pub mod Turns
 pub mod Gathering
 pub mod EndsKept
+pub mod Counting

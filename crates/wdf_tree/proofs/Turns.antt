@@ -425,7 +425,7 @@ turn_by T waiting id true true kin few e f =
     rw (e, f, childless, last) refl
 
 module _ (T : Tree) (waiting : Family) (bits : List Bool) (h : HoldsTurns T.nodes waiting.lists bits) (kin : HoldsKin is_waiting T.nodes waiting) (few : length T.nodes ≤ OBJECTS) where
-  turns_right : (x : ℕ) → is_in x bits ≡ may_clean T x
+  pub turns_right : (x : ℕ) → is_in x bits ≡ may_clean T x
   turns_right x = h.same x ∙ turn_by T waiting x (is_asked (life_of T x)) (is_asked (life_of T (parent_of T x))) kin few refl refl
 
   turns_past : (x : ℕ) → length T.nodes ≤ x → may_clean T x ≡ false

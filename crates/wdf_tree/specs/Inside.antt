@@ -12,7 +12,7 @@ use Rattle.wdf_model.specs.declared.room.TheConstants.{OBJECTS}
 use Rattle.wdf_model.specs.parts.Tree.{Tree, counts, gone, nearest_devices}
 use Rattle.wdf_tree.specs.Kin.{HoldsKin, is_left, is_waiting}
 use Rattle.wdf_tree.specs.Leaving.{HoldsLeaving}
-use Rattle.wdf_tree.specs.Turns.{HoldsEnds, HoldsTurns}
+use Rattle.wdf_tree.specs.Turns.{HoldsCounted, HoldsEnds, HoldsTurns}
 use Rattle.wdf_tree.specs.declared.tree.Tree.TheInside.{Inside}
 
 abbrev pub tree_in : Inside → Tree
@@ -44,9 +44,10 @@ pub record IsKept (nodes : List Node) (nearest : List ObjectId) (count node_room
   pub kin : HoldsKin is_left nodes children
   pub waiting_kin : HoldsKin is_waiting nodes waiting
 
--- All that is kept: this, the sets of the objects whose deletion isn't finished, and those of what may be cleaned up or destroyed.
+-- All that is kept: this, the sets of the objects whose deletion isn't finished, those of what may be cleaned up or destroyed, and that of what counts against the limit.
 pub record IsSound (t : Inside) : Type 0 where
   pub kept : IsKept t.nodes.items t.devices.items t.count (vec_capacity t.nodes) (vec_capacity t.devices) t.children t.waiting
   pub leaving : HoldsLeaving t.nodes.items t.asked t.cleaned
   pub turns : HoldsTurns t.nodes.items t.waiting.lists t.turns
   pub ends : HoldsEnds t.nodes.items t.children.lists t.ends
+  pub counted : HoldsCounted t.nodes.items t.counted

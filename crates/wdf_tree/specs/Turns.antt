@@ -5,7 +5,7 @@ use Rattle.wdf_ilist.specs.Family.{last_of, list_at}
 use Rattle.wdf_model.specs.Tables.{entry, ids_of, same_id}
 use Rattle.wdf_model.specs.declared.entries.Node.{Node}
 use Rattle.wdf_model.specs.declared.room.TheConstants.{OBJECTS}
-use Rattle.wdf_model.specs.parts.Tree.{Tree, gone, may_clean, may_destroy}
+use Rattle.wdf_model.specs.parts.Tree.{Tree, counts, gone, life_of, may_clean, may_destroy, node_of}
 use Rattle.wdf_sets.specs.Members.{is_in}
 
 -- the objects whose cleanup may come by lives alone, by rising id
@@ -26,6 +26,18 @@ is_turn nodes waiting o =
 -- the other, where lists hold the children of each object that are left
 abbrev pub is_end : List Node → List (List ℕ) → ℕ → Bool
 is_end nodes children o = is_cleaned (entry gone nodes o).life && (entry gone nodes o).references == 0 && length (list_at children o) == 0
+
+-- Those of them that count against the limit: none is an arrived request. And the objects of these that are cleaned up.
+abbrev pub is_counted_turn : Tree → ℕ → Bool
+is_counted_turn T o = may_clean T o && counts (node_of T o)
+
+abbrev pub is_counted_cleaned : Tree → ℕ → Bool
+is_counted_cleaned T o = is_cleaned (life_of T o) && counts (node_of T o)
+
+-- A set has a bit for each object, and its members are the objects that count.
+pub record HoldsCounted (nodes : List Node) (bits : List Bool) : Type 0 where
+  pub room : OBJECTS ≤ length bits
+  pub same : (id : ℕ) → is_in id bits ≡ counts (entry gone nodes id)
 
 -- A set has a bit for each object, and its members are the objects whose cleanup may come.
 pub record HoldsTurns (nodes : List Node) (waiting : List (List ℕ)) (bits : List Bool) : Type 0 where

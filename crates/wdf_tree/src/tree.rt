@@ -41,6 +41,8 @@ pub struct Tree {
     turns: IdSet,
     /// Those that may be destroyed, by the tree alone.
     ends: IdSet,
+    /// The objects that count against the limit: all that aren't gone but arrived requests.
+    counted: IdSet,
 }
 
 impl Model for Tree {

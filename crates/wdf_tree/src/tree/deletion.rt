@@ -151,6 +151,7 @@ impl Tree {
         self.devices[o.0 as usize] = DRIVER;
         let _list = self.children.unlink(o.0);
         self.cleaned.put(o.0, false);
+        self.counted.put(o.0, false);
         note_ended(&mut self.ends, &self.nodes, &self.children, o, parent);
     }
 }

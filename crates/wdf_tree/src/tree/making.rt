@@ -67,15 +67,18 @@ fn declared_node(declared: &Declared) -> Node
     new_node(declared.kind().unwrap_or(Kind::General), 0, parent)
 }
 
-/// What an object counts against the limit: all but arrived requests count, while they aren't gone.
+/// Whether an object counts against the limit: all but arrived requests do, while they aren't gone.
+fn is_counted(node: &Node) -> bool
+    ensures { result ≡ tree.counts node.now }
+{
+    !node.life.is_gone() && node.kind != Kind::Request
+}
+
+/// What an object counts against the limit.
 pub(super) fn counted(node: &Node) -> u32
     ensures { result ≡ (if tree.counts node.now then 1 else 0) }
 {
-    if !node.life.is_gone() && node.kind != Kind::Request {
-        1
-    } else {
-        0
-    }
+    if is_counted(node) { 1 } else { 0 }
 }
 
 /// Puts an object at the end of the list of its parent's children, if there is such a list.
@@ -90,15 +93,17 @@ fn join(family: &mut Links, parent: ObjectId, id: u32)
     }
 }
 
-/// Four sets without a member, each with room for as many objects.
-fn empty_sets(alloc: Global, room: u32) -> Result<(IdSet, IdSet, IdSet, IdSet), Memory>
+/// Five sets without a member, each with room for as many objects.
+fn empty_sets(alloc: Global, room: u32) -> Result<(IdSet, IdSet, IdSet, IdSet, IdSet), Memory>
     requires { room < 2 ^ 31 }
     ensures first { IfOk result (λ sets. sets.0 ≡ replicate (4096 * div_ceil room 4096) false) }
     ensures second { IfOk result (λ sets. sets.1 ≡ replicate (4096 * div_ceil room 4096) false) }
     ensures third { IfOk result (λ sets. sets.2 ≡ replicate (4096 * div_ceil room 4096) false) }
     ensures fourth { IfOk result (λ sets. sets.3 ≡ replicate (4096 * div_ceil room 4096) false) }
+    ensures fifth { IfOk result (λ sets. sets.4 ≡ replicate (4096 * div_ceil room 4096) false) }
 {
     Ok((
+        IdSet::make(alloc, room)?,
         IdSet::make(alloc, room)?,
         IdSet::make(alloc, room)?,
         IdSet::make(alloc, room)?,
@@ -154,6 +159,7 @@ impl Tree {
         self.cleaned.clear();
         self.turns.clear();
         self.ends.clear();
+        self.counted.clear();
     }
 
     /// The tree with no object, and with room for as many.
@@ -167,7 +173,7 @@ impl Tree {
         devices.push_reserved(DRIVER);
         let children = Links::make(alloc, room, room)?;
         let waiting = Links::make(alloc, room, room)?;
-        let (asked, cleaned, turns, ends) = empty_sets(alloc, room)?;
+        let (asked, cleaned, turns, ends, counted) = empty_sets(alloc, room)?;
         Ok(Tree {
             limit,
             nodes,
@@ -179,6 +185,7 @@ impl Tree {
             cleaned,
             turns,
             ends,
+            counted,
         })
     }
 
@@ -206,6 +213,7 @@ impl Tree {
         let parent = node.parent;
         let last = self.waiting.back(parent.0);
         self.count += counted(&node);
+        self.counted.put(id, is_counted(&node));
         join(&mut self.children, parent, id);
         join(&mut self.waiting, parent, id);
         self.nodes.push_reserved(node);

@@ -1,16 +1,18 @@
 //! The objects whose cleanup may come, by lives alone.
 
-ghost use Rattle.std.specs.Prelude.{◌≡◌, ◌<◌, ◌≤◌, ◌&&◌, ℕ, IfSome, true, filter, find, length, nat_le, option_and_then, option_map, slice_get};
+ghost use Rattle.std.specs.Prelude.{◌≡◌, ◌<◌, ◌≤◌, ◌&&◌, ℕ, IfSome, MatchOption, true, filter, find, length, nat_le, option_and_then, option_map, slice_get};
 ghost use Rattle.std.specs.List.{range_with_len};
 ghost use Rattle.wdf_ilist.specs.Family.{after_in, is_on, list_at};
 ghost use Rattle.wdf_model.specs.Tables.{entry, ids_of};
 ghost use Rattle.wdf_model.specs.declared.room.TheConstants.{OBJECTS};
 ghost use Rattle.wdf_model.specs.parts.Tree as tree;
 ghost use Rattle.wdf_sets.specs.Members.{is_in};
-ghost use Rattle.wdf_tree.specs.Turns.{AreNoted, is_turn as is_turn_by, turns_of};
+ghost use Rattle.wdf_sets.specs.Nexts.{IsNext, NoneFrom};
+ghost use Rattle.wdf_tree.specs.Turns.{AreNoted, is_counted_turn, is_turn as is_turn_by, turns_of};
 
 use super::Tree;
 use super::deletion::is_id;
+use super::leaving::first_in_both;
 use wdf_base::{Life, ObjectId};
 use wdf_ilist::Links;
 use wdf_maps::object_at;
@@ -158,6 +160,14 @@ impl Tree {
             ≡ find (λ o. nat_le from.0 o && tree.may_clean self.now o) (ids_of self.now.nodes) }
     {
         object_at(self.turns.from(from.0))
+    }
+
+    /// The first object from an id on below an end whose cleanup may come, by lives alone, and that counts against the
+    /// limit: no arrived request.
+    pub fn next_counted_turn(&self, from: u32, end: u32) -> Option<u32>
+        ensures { MatchOption result (NoneFrom (is_counted_turn self.now) from end) (λ o. IsNext (is_counted_turn self.now) from end o) }
+    {
+        first_in_both(&self.turns, &self.counted, from, end)
     }
 
     /// How many objects there are whose cleanup may come, by lives alone. There is room for each object.

@@ -27,38 +27,38 @@ all_objects-requires c = c.requires
 
 pub gather-requires : goal.gather-requires
 gather-requires c =
-    rw c.scene-scene.ensures (omega arith, (every_any _ (λ p. tt) _, classes_room c.args.heritage.now c.args.names.now c.requires))
+    rw (c.lines-lines.ensures, c.scene-scene.ensures) (omega arith, (every_any _ (λ p. tt) _, classes_room c.args.heritage.now c.args.names.now c.requires))
 
 pub gather-requires-2 : goal.gather-requires-2
 gather-requires-2 c =
     let names = c.args.names.now in
     let room = lines_room c.args.heritage.now (λ p. register_on names p p.form) c.requires.few_lines in
-    rw c.scene-scene.ensures (omega arith, (devices_fit c.args.heritage.now names c.requires, (room, room)))
+    rw c.lines-lines.ensures (omega arith, (devices_fit c.args.heritage.now names c.requires, (room, room)))
 
 pub gather-requires-3 : goal.gather-requires-3
 gather-requires-3 c =
     let room = lines_room c.args.heritage.now (λ p. when_on c.args.names.now p.number p.stand.device p.form) c.requires.few_lines in
-    rw c.scene-scene.ensures (omega arith, (every_any _ (λ p. tt) _, (room, room)))
+    rw c.lines-lines.ensures (omega arith, (every_any _ (λ p. tt) _, (room, room)))
 
 pub gather-requires-4 : goal.gather-requires-4
 gather-requires-4 c =
     let room = lines_room c.args.heritage.now (λ p. pnp_post c.args.names.now p.number p.form) c.requires.few_lines in
-    rw c.scene-scene.ensures (omega arith, (every_any _ (λ p. tt) _, (room, room)))
+    rw c.lines-lines.ensures (omega arith, (every_any _ (λ p. tt) _, (room, room)))
 
 pub all_agents-requires : goal.all_agents-requires
-all_agents-requires c = rw c.scene-scene.ensures c.requires
+all_agents-requires c = rw c.lines-lines.ensures c.requires
 
 pub all_nodes-requires-clause-fit : goal.all_nodes-requires-clause-fit
-all_nodes-requires-clause-fit c = rw c.scene-scene.ensures (nodes_fit c.args.heritage.now c.args.names.now c.requires)
+all_nodes-requires-clause-fit c = rw c.lines-lines.ensures (nodes_fit c.args.heritage.now c.args.names.now c.requires)
 
 pub all_nodes-requires-clause-room : goal.all_nodes-requires-clause-room
-all_nodes-requires-clause-room c = rw c.scene-scene.ensures (nodes_few c.args.heritage.now c.args.names.now c.requires)
+all_nodes-requires-clause-room c = rw c.lines-lines.ensures (nodes_few c.args.heritage.now c.args.names.now c.requires)
 
 pub gather-requires-5 : goal.gather-requires-5
 gather-requires-5 c =
     let names = c.args.names.now in
     let room = lines_room c.args.heritage.now (λ p. script_on c.args.heritage.now names p p.form) c.requires.few_lines in
-    rw c.scene-scene.ensures (omega arith, (scripts_small c.args.heritage.now names c.requires, (room, room)))
+    rw c.lines-lines.ensures (omega arith, (scripts_small c.args.heritage.now names c.requires, (room, room)))
 
 pub all_picks-requires : goal.all_picks-requires
 all_picks-requires c =
@@ -66,4 +66,4 @@ all_picks-requires c =
 
 pub returns : goal.returns
 returns c =
-    rw (← c.scene-scene.ensures) (plan_made c.scene-scene.result.now c.args.names.now _ _ _ _ _ _ _ _ _ _ _ _ _ c.header_at-cpus.ensures c.header_at-limit.ensures c.header_at-objects.ensures (rw c.as_slice.ensures.value at c.in_ok-all.ensures) (rw (← c.scene-scene.ensures) at c.in_ok-declared.ensures) c.in_ok-classes.ensures c.in_ok-registers.ensures c.in_ok-whens.ensures c.in_ok-pnp.ensures c.in_ok-agents.ensures c.in_ok-exprs.ensures (rw (← c.scene-scene.ensures) at c.in_ok-scripts.ensures) (rw c.as_slice-2.ensures.value at c.in_ok-picks.ensures))
+    plan_made c.args.heritage.now c.args.names.now _ _ _ _ _ _ _ _ _ _ _ _ _ (rw c.scene-scene.ensures at c.header_at-cpus.ensures) (rw c.scene-scene.ensures at c.header_at-limit.ensures) (rw c.scene-scene.ensures at c.header_at-objects.ensures) (rw c.as_slice.ensures.value at c.in_ok-all.ensures) c.in_ok-declared.ensures (rw (c.lines-lines.ensures, c.scene-scene.ensures) at c.in_ok-classes.ensures) (rw c.lines-lines.ensures at c.in_ok-registers.ensures) (rw c.lines-lines.ensures at c.in_ok-whens.ensures) (rw c.lines-lines.ensures at c.in_ok-pnp.ensures) (rw c.lines-lines.ensures at c.in_ok-agents.ensures) (rw c.lines-lines.ensures at c.in_ok-exprs.ensures) (rw c.lines-lines.ensures at c.in_ok-scripts.ensures) (rw (c.as_slice-2.ensures.value, c.scene-scene.ensures) at c.in_ok-picks.ensures)

@@ -3,4 +3,4 @@ use Rattle.wdf_refusals.proofs.first.declared.Goals as goal
 
 pub loop-placed-init : goal.loop-placed-init
 loop-placed-init c =
-    declaring_begins _ _ _ c.requires (rw (c.as_slice-lines.ensures.value) at c.as_slice-lines.ensures.fits) c.new-names.ensures c.new-walk.ensures
+    declaring_begins _ _ _ c.requires (rw (c.as_slice-lines.ensures.value, c.scene.ensures) at c.as_slice-lines.ensures.fits) c.new-names.ensures c.walk-walk.ensures

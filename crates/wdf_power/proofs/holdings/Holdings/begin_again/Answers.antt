@@ -2,7 +2,7 @@
 use Rattle.std.proofs.Common.{◌≡◌, ◌+◌, length, ap, refl, ◌∙◌, arith}
 use Rattle.wdf_maps.proofs.Counting.{none_counted}
 use Rattle.wdf_model.specs.parts.Power.{Power}
-use Rattle.wdf_power.specs.Power.{due_at, unsettled_at}
+use Rattle.wdf_power.specs.Power.{due_at, resume_of, unsettled_at}
 use Rattle.wdf_power.proofs.holdings.Holdings.begin_again.Goals as goal
 
 pub write_queues-requires : goal.write_queues-requires
@@ -19,6 +19,7 @@ invariant_of-self c =
       within = rw empty (omega arith);
       unsettled = rw (empty, c.clear-2.ensures) (none_counted (unsettled_at qs));
       due = rw (empty, c.clear-3.ensures) (none_counted (due_at qs));
+      resumes = rw (empty, c.clear-4.ensures) (none_counted resume_of);
     }
 
 pub returns : goal.returns

@@ -1,7 +1,7 @@
 -- At first nothing is held and nothing is counted.
 use Rattle.std.proofs.Common.{refl, arith}
 use Rattle.wdf_maps.proofs.Counting.{none_counted}
-use Rattle.wdf_power.specs.Power.{due_at, unsettled_at}
+use Rattle.wdf_power.specs.Power.{due_at, resume_of, unsettled_at}
 use Rattle.wdf_power.proofs.holdings.Holdings.make.Goals as goal
 
 pub invariant_of-result : goal.invariant_of-result
@@ -13,6 +13,7 @@ invariant_of-result c =
       within = rw empty (omega arith);
       unsettled = rw (empty, c.in_ok-make.ensures) (none_counted (unsettled_at qs));
       due = rw (empty, c.in_ok-make-2.ensures) (none_counted (due_at qs));
+      resumes = rw (empty, c.in_ok-make-3.ensures) (none_counted resume_of);
     }
 
 pub returns : goal.returns

@@ -4,7 +4,7 @@ use Rattle.wdf_model.specs.Tables.{entry}
 use Rattle.wdf_model.specs.parts.Power.{holding_of, no_holding}
 use Rattle.wdf_model.proofs.Maps.{put_short}
 use Rattle.wdf_maps.proofs.Counting.{counted_put, room_by_entries}
-use Rattle.wdf_power.specs.Power.{due_at, unsettled_at}
+use Rattle.wdf_power.specs.Power.{due_at, resume_of, unsettled_at}
 use Rattle.wdf_power.proofs.holdings.Holdings.write.Goals as goal
 
 pub moves-requires : goal.moves-requires
@@ -16,6 +16,11 @@ pub moves-requires-2 : goal.moves-requires-2
 moves-requires-2 c =
     let a = c.self.inside in
     room_by_entries (due_at a.queues.items) a.all.items a.due c.due_at-2.result c.self.invariant.within c.self.invariant.due
+
+pub moves-requires-3 : goal.moves-requires-3
+moves-requires-3 c =
+    let a = c.self.inside in
+    room_by_entries resume_of a.all.items a.resumes c.resume_of-2.result c.self.invariant.within c.self.invariant.resumes
 
 pub invariant_of-self : goal.invariant_of-self
 invariant_of-self c =
@@ -32,4 +37,7 @@ invariant_of-self c =
       due =
           rw (e, c.moves-2.ensures, c.due_at.ensures, c.due_at-2.ensures, c.deref-3.ensures.value, c.deref-4.ensures.value, was)
           (counted_put (due_at a.queues.items) no_holding a.all.items a.due c.args.r.0 c.args.new refl s.due);
+      resumes =
+          rw (e, c.moves-3.ensures, c.resume_of.ensures, c.resume_of-2.ensures, was)
+          (counted_put resume_of no_holding a.all.items a.resumes c.args.r.0 c.args.new refl s.resumes);
     }

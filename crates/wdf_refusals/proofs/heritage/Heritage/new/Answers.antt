@@ -6,5 +6,5 @@ use Rattle.wdf_refusals.proofs.heritage.Heritage.new.Goals as goal
 
 pub gather-requires : goal.gather-requires
 gather-requires c =
-    let room = lines_room c.args.scene.now (kept_of c.args.scene.now) (rw (c.as_slice-lines.ensures.value) at c.as_slice-lines.ensures.fits) in
+    let room = lines_room c.args.scene.now (kept_of c.scene-own.result.now) (rw (c.as_slice-lines.ensures.value, c.scene-own.ensures) at c.as_slice-lines.ensures.fits) in
     (omega arith, (every_any _ (λ p. tt) _, (room, room)))

@@ -1,4 +1,4 @@
-use Rattle.std.proofs.Common.{◌≡◌, ◌*◌, false, length, replicate, sym, ap, ◌∙◌}
+use Rattle.std.proofs.Common.{◌≡◌, false, length, replicate, sym, ap, ◌∙◌}
 use Rattle.wdf_sets.specs.Words.{bits_of}
 use Rattle.wdf_sets.proofs.Ones.{length_bits, bits_of_zeros}
 use Rattle.wdf_sets.proofs.bits.Bits.clear.Goals as goal

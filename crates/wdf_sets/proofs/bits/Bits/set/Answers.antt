@@ -1,4 +1,4 @@
-use Rattle.std.proofs.Common.{◌≡◌, ◌/◌, ◌%◌, ◌<◌, length, slice_index, slice_set, ap, subst, ◌∙◌, arith}
+use Rattle.std.proofs.Common.{◌≡◌, ◌/◌, ◌%◌, ◌<◌, length, slice_set, ap, subst, ◌∙◌, arith}
 use Rattle.wdf_sets.specs.Words.{bits_of, Writes}
 use Rattle.wdf_sets.proofs.Ones.{length_bits, bits_written}
 use Rattle.wdf_sets.proofs.bits.Bits.set.Goals as goal

@@ -3,6 +3,7 @@ use Rattle.wdf_base.specs.Lives.{is_live}
 use Rattle.wdf_model.specs.Tables.{entry}
 use Rattle.wdf_model.specs.declared.entries.Node.{Node}
 use Rattle.wdf_model.specs.parts.Tree.{Tree, gone, life_of}
+use Rattle.wdf_tree.proofs.Counting.{counted_by_write}
 use Rattle.wdf_tree.proofs.EndsKept.{ends_by_ask}
 use Rattle.wdf_tree.proofs.Kept.{kept_by_write, live_stands, read_entry}
 use Rattle.wdf_tree.proofs.Leaving.{leaving_by_ask}
@@ -23,4 +24,5 @@ invariant_of-self c =
       turns = turns_by_ask _ _ c.self.invariant.turns c.self.invariant.kept.waiting_kin c.self.invariant.kept.few there
           (record { noted = rw c.deref.ensures.value at c.note_around.ensures.noted; own = rw c.deref.ensures.value at c.note_around.ensures.own; children = rw c.deref.ensures.value at c.note_around.ensures.children });
       ends = ends_by_ask _ _ c.self.invariant.ends there (ap is_live read ∙ stays.live) refl;
+      counted = counted_by_write _ c.index_mut.result.now _ c.self.invariant.counted there c.index_mut.ensures.value (record { kind = refl; parent = refl; gone = sym stays.gone });
     }

@@ -3,6 +3,7 @@ use Rattle.wdf_base.specs.Lives.{is_asked}
 use Rattle.wdf_model.specs.Tables.{entry}
 use Rattle.wdf_model.specs.declared.entries.Node.{Node}
 use Rattle.wdf_model.specs.parts.Tree.{Tree, gone, life_of, parent_of}
+use Rattle.wdf_tree.proofs.Counting.{counted_by_write}
 use Rattle.wdf_tree.proofs.EndsKept.{ends_by_set}
 use Rattle.wdf_tree.proofs.Kept.{asked_stands, kept_by_cleanup, read_entry, there_if_asked}
 use Rattle.wdf_tree.proofs.Leaving.{leaving_by_cleanup}
@@ -27,4 +28,5 @@ invariant_of-self c =
             sibling = rw c.deref.ensures.value at c.note_cleaned.ensures.sibling;
           });
       ends = ends_by_set _ _ c.self.invariant.ends there (rw c.deref-2.ensures.value at c.note_end.ensures.noted) (rw c.deref-2.ensures.value at c.note_end.ensures.own);
+      counted = counted_by_write _ c.index_mut.result.now _ c.self.invariant.counted there c.index_mut.ensures.value (record { kind = refl; parent = refl; gone = sym stays });
     }

@@ -3,6 +3,7 @@ use Rattle.std.specs.Prelude.{slice_set}
 use Rattle.wdf_model.specs.declared.entries.Node.{Node}
 use Rattle.wdf_model.specs.parts.Tree.{Tree, destroy, gone, parent_of}
 use Rattle.wdf_model.proofs.Maps.{put_within}
+use Rattle.wdf_tree.proofs.Counting.{counted_by_end}
 use Rattle.wdf_tree.proofs.EndsKept.{ends_by_end}
 use Rattle.wdf_tree.proofs.Kept.{devices_as_many, few_counted, kept_by_end, may_end, there_if_cleaned}
 use Rattle.wdf_tree.proofs.Leaving.{leaving_by_end}
@@ -34,6 +35,7 @@ invariant_of-self c =
     let few = few_counted _ c.index.result.now c.self.invariant.kept there c.index.ensures in
     record {
       kept = rw c.unlink-list.ensures.gone (kept_by_end _ _ c.index.result.now _ _ c.self.invariant.kept may c.index.ensures c.gone.ensures refl (rw c.counted.ensures (omega arith)));
+      counted = rw c.put-2.ensures (counted_by_end _ _ c.self.invariant.counted c.self.invariant.kept.few there c.gone.ensures);
       leaving = rw c.put.ensures (leaving_by_end _ _ c.self.invariant.leaving c.self.invariant.kept.few there may.cleaned c.gone.ensures);
       turns = turns_by_end _ _ c.self.invariant.turns there may c.gone.ensures;
       ends = ends_by_end _ _ _ _ c.unlink-list.ensures.gone c.self.invariant.ends c.self.invariant.kept.kin there c.gone.ensures

@@ -1,6 +1,7 @@
 use Rattle.std.proofs.Common.{◌≡◌, [], length, sym, ap, ◌∙◌, arith}
 use Rattle.wdf_model.specs.parts.Tree.{Tree, nearest_devices, own_device}
 use Rattle.wdf_tree.specs.Kin.{is_left, is_waiting}
+use Rattle.wdf_tree.proofs.Counting.{counted_by_push}
 use Rattle.wdf_tree.proofs.EndsKept.{ends_by_push}
 use Rattle.wdf_tree.proofs.Kin.{next_is_free}
 use Rattle.wdf_tree.proofs.Kept.{devices_as_many, kept_by_push}
@@ -18,6 +19,7 @@ invariant_of-self c =
       kept = rw (c.push_reserved.ensures.items, c.push_reserved-2.ensures.items, c.push_reserved.ensures.capacity, c.push_reserved-2.ensures.capacity, c.counted.ensures, c.join.ensures, c.join-2.ensures)
           (kept_by_push c.args.node c.nearest_for-device.result c.len-id.result c.self.invariant.kept (omega arith) c.requires.live
           (c.nearest_for-device.ensures ∙ ap (λ (t : Tree). own_device (nearest_devices [] t.nodes) (length t.nodes) c.args.node) (sym c.self.view_is)) (omega arith));
+      counted = rw (c.push_reserved.ensures.items, c.put.ensures) (counted_by_push c.args.node c.len-id.result c.is_counted.result c.self.invariant.counted (omega arith) (omega arith) c.is_counted.ensures);
       leaving = rw c.push_reserved.ensures.items (leaving_by_push c.args.node c.self.invariant.leaving c.requires.live);
       turns = turns_after_push c.args.node c.len-id.result _ _ c.back-last.result c.push_reserved.ensures.items c.join-2.ensures c.self.invariant.turns c.self.invariant.kept.waiting_kin c.requires.live (omega arith)
           c.back-last.ensures

@@ -1,5 +1,6 @@
 use Rattle.std.proofs.Common.{◌<◌, length, refl, ap, arith}
 use Rattle.wdf_model.specs.parts.Tree.{Tree}
+use Rattle.wdf_tree.proofs.Counting.{counted_by_write}
 use Rattle.wdf_tree.proofs.EndsKept.{ends_by_write}
 use Rattle.wdf_tree.proofs.Kept.{kept_by_write}
 use Rattle.wdf_tree.proofs.Leaving.{leaving_by_write}
@@ -15,6 +16,7 @@ invariant_of-self c =
       leaving = leaving_by_write _ c.index_mut.result.now _ c.self.invariant.leaving there read refl;
       turns = turns_by_write _ c.index_mut.result.now _ c.self.invariant.turns there read refl refl;
       ends = ends_by_write _ c.index_mut.result.now _ c.self.invariant.ends there read refl refl;
+      counted = counted_by_write _ c.index_mut.result.now _ c.self.invariant.counted there read (record { kind = refl; parent = refl; gone = refl });
     }
 
 pub invariant_of-self-in-EvtDestroyCallback : goal.invariant_of-self-in-EvtDestroyCallback
@@ -26,4 +28,5 @@ invariant_of-self-in-EvtDestroyCallback c =
       leaving = leaving_by_write _ c.index_mut-in-EvtDestroyCallback.result.now _ c.self.invariant.leaving there read refl;
       turns = turns_by_write _ c.index_mut-in-EvtDestroyCallback.result.now _ c.self.invariant.turns there read refl refl;
       ends = ends_by_write _ c.index_mut-in-EvtDestroyCallback.result.now _ c.self.invariant.ends there read refl refl;
+      counted = counted_by_write _ c.index_mut-in-EvtDestroyCallback.result.now _ c.self.invariant.counted there read (record { kind = refl; parent = refl; gone = refl });
     }

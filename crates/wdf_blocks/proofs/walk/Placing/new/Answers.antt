@@ -1,6 +1,6 @@
 use Rattle.std.proofs.Common.{refl}
 use Rattle.wdf_blocks.specs.Placed.{placed}
-use Rattle.wdf_blocks.proofs.walk.Walk.new.Goals as goal
+use Rattle.wdf_blocks.proofs.walk.Placing.new.Goals as goal
 
 pub returns : goal.returns
 unfolding placed

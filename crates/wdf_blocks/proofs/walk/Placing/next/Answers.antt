@@ -1,6 +1,6 @@
 use Rattle.std.proofs.Common.{sym, ◌∙◌, ◌≤◌, length, arith}
 use Rattle.wdf_blocks.proofs.Walks.{placed_end, walk_next, within_walk}
-use Rattle.wdf_blocks.proofs.walk.Walk.next.Goals as goal
+use Rattle.wdf_blocks.proofs.walk.Placing.next.Goals as goal
 
 pub returns-then-self-lines : goal.returns-then-self-lines
 returns-then-self-lines c =
