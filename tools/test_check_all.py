@@ -38,7 +38,7 @@ def ends(rows, *words):
 def main():
     wrong = [f"no {row[1].split()[0]}" for row in check_all.ROWS + check_all.LONG if check_all.lacking(row[1], None)]
     with tempfile.TemporaryDirectory() as room:
-        check_all.ROOT = room
+        check_all.ROOT = tempfile.tempdir = room
         for name, text in SCRIPTS.items():
             with open(os.path.join(room, name), "w", encoding="ascii") as file:
                 file.write(text)
