@@ -1,5 +1,5 @@
 #!/usr/bin/env python3
-"""One table of all kinds of work: how long an event takes by each word, how that grows, and what memory it takes.
+"""One table of many kinds of work: how long an event takes by each word, how that grows, and what memory it takes.
 
 Not part of the gate. Build the program first (`./kmdfsim check < examples/first-read.kmdf`), then from the root:
 
@@ -11,6 +11,12 @@ exponent of growth since the size before (1.0: twice the events take twice the t
 are the best of two runs; `run` has other events each time, and its column is by its own. An exponent is left out where the
 smaller size took less than 20 ms. `replay` reads 1 MiB at most, and says "too long" of more. Where KINDs are named, only they
 are run.
+
+The kinds are reads, removals of a device, interrupts, a loop, locks, cancels in a queue, queues, devices, timers that are due at
+ticks of their own, work items, apps, children of one object and classes. Then those in which much waits at once: frames that are
+parked, timers that are due at one tick, removals where a class declares a callback for its cleanup or destruction, and many
+requests for which EvtRequestCancel, EvtIoCanceledOnQueue or EvtIoStop is due, or whose queue declares EvtIoResume. Other kinds
+of work may grow otherwise.
 """
 
 import math
@@ -54,11 +60,17 @@ def devices(count):
     return text
 
 
+def repeated(count, body):
+    """A loop of that many turns; of more than a thousand, which is the most, thousands by a loop in a loop."""
+    loop = f"repeat {min(count, 1000)}\nlet k = ( k + 1 )\n{body}end\n"
+    return loop if count <= 1000 else f"repeat {count // 1000}\n{loop}end\n"
+
+
 def made(kind, count, callback, body):
     """A callback makes that many objects of a class, and does something with each."""
     head = f"class C {kind} D\non {callback}\nend\nend\n" if callback else f"class C {kind} D\nend\n"
     text = machine.opening() + head + "device D working\nqueue Q sequential\ndefault\non EvtIoDefault\n"
-    text += f"repeat {count}\nlet k = ( k + 1 )\n{body}end\n"
+    text += repeated(count, body)
     return text + "call WdfRequestComplete request SUCCESS\nend\nend\nend\napp A\nat 0 read D 16\nend\n"
 
 
@@ -67,9 +79,70 @@ def timers(count):
     return made("timer", count, "EvtTimerFunc", "call o = WdfTimerCreate C\ncall was = WdfTimerStart o k\n")
 
 
+def due_timers(count):
+    """Timers that are started together, and are due at one tick."""
+    return made("timer", count, "EvtTimerFunc", "call o = WdfTimerCreate C\ncall was = WdfTimerStart o 5\n")
+
+
 def work_items(count):
     """Work items that are queued together."""
     return made("workitem", count, "EvtWorkItem", "call o = WdfWorkItemCreate C\ncall WdfWorkItemEnqueue o\n")
+
+
+def children(count):
+    """An object with that many children, which is deleted."""
+    text = machine.opening() + "class P object\nend\nclass C object\nend\n" + HEAD + "queue Q sequential\ndefault\non EvtIoDefault\n"
+    text += "call p = WdfObjectCreate P device\n" + repeated(count, "call c = WdfObjectCreate C p\n")
+    return text + "call WdfObjectDelete p\ncall WdfRequestComplete request SUCCESS\nend\nend\nend\napp A\nat 0 read D 16\nend\n"
+
+
+def classes(count):
+    """Two hundred and fifty reads, and that many classes with a callback."""
+    more = "".join(f"class W{k} workitem D\non EvtWorkItem\nend\nend\n" for k in range(count))
+    return machine.reads(250).replace(HEAD, more + HEAD, 1)
+
+
+def parked(count):
+    """Two processors, and that many frames at PASSIVE_LEVEL that wait for one lock."""
+    text = machine.opening(cpus=2) + "class L waitlock\nend\ndevice D\nlevel passive\non EvtDeviceD0Entry\n"
+    text += "call l = WdfWaitLockCreate L device\ncall SetContext device 0 l\nend\nqueue Q parallel 1024\ndefault\non EvtIoDefault\n"
+    text += "call l = GetContext device 0\ncall WdfWaitLockAcquire l\nspend 1\ncall WdfWaitLockRelease l\ncall WdfRequestComplete request SUCCESS\n"
+    return text + "end\nend\nend\napp A\n" + "at 1 read D 16\n" * count + "end\npnp\nat 0 start D\nend\n"
+
+
+def declared(callback):
+    """Removals, where a class that has no object declares this callback."""
+    return lambda count: machine.removal(count).replace(HEAD, f"class C object\non {callback}\nend\nend\n" + HEAD, 1)
+
+
+def cancelled(count, queues):
+    """Reads, and then a cancel of each."""
+    posts = "at 0 read D 16\n" * count + "".join(f"at 9 cancel {k + 1}\n" for k in range(count))
+    return machine.opening() + HEAD + queues + f"end\napp A\n{posts}end\n"
+
+
+def request_cancels(count):
+    """Cancelable requests of which each is cancelled at one tick: EvtRequestCancel is due for all."""
+    queue = "queue Q parallel 1024\ndefault\non EvtIoDefault\ncall s = WdfRequestMarkCancelableEx request\nend\n"
+    return cancelled(count, queue + "on EvtRequestCancel\ncall WdfRequestComplete request CANCELLED\nend\nend\n")
+
+
+def returns(count):
+    """Forwarded requests of which each is cancelled in its queue at one tick: EvtIoCanceledOnQueue is due for all."""
+    queues = "queue M manual\non EvtIoCanceledOnQueue\ncall WdfRequestComplete request CANCELLED\nend\nend\n"
+    return cancelled(count, queues + "queue Q sequential\ndefault\non EvtIoDefault\ncall s = WdfRequestForwardToIoQueue request M\nend\nend\n")
+
+
+def stops(count):
+    """A device that goes to sleep while the driver holds that many requests: EvtIoStop is due for each."""
+    text = machine.opening() + "device D\nqueue Q parallel 1024\ndefault\non EvtIoDefault\nend\n"
+    text += "on EvtIoStop\ncall WdfRequestComplete request CANCELLED\nend\nend\nend\n"
+    return text + "app A\n" + "at 1 read D 16\n" * count + "end\npnp\nat 0 start D\nat 9 sleep D\nend\n"
+
+
+def resumes(count):
+    """Reads of a queue that declares EvtIoResume, which is never due."""
+    return machine.reads(count).replace("default\n", "default\non EvtIoResume\nend\n", 1)
 
 
 KINDS = {
@@ -81,9 +154,19 @@ KINDS = {
     "cancels": (cancels, (500, 1000, 2000)),
     "queues": (machine.queues, (16, 32, 64, 128, 256)),
     "devices": (devices, (1, 2, 4, 8)),
-    "timers": (timers, (250, 500, 1000)),
+    "timers": (timers, (500, 1000, 2000, 4000)),
     "work items": (work_items, (250, 500, 1000)),
     "apps": (machine.apps, (4, 16, 64, 256)),
+    "children": (children, (500, 1000, 2000, 4000)),
+    "classes": (classes, (4, 16, 64, 250)),
+    "parked": (parked, (64, 128, 256)),
+    "due timers": (due_timers, (250, 500, 1000)),
+    "cleaned": (declared("EvtCleanupCallback"), (255, 510, 1020)),
+    "destroyed": (declared("EvtDestroyCallback"), (255, 510, 1020)),
+    "marked": (request_cancels, (255, 510, 1020)),
+    "returning": (returns, (255, 510, 1020)),
+    "stops": (stops, (255, 510, 1020)),
+    "resumes": (resumes, (255, 510, 1020)),
 }
 
 

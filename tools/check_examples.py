@@ -246,7 +246,7 @@ def check_file(program, text, seeds):
 def check_files(program, seeds):
     """The faults of the files of examples/ and scenarios/, and how many there are."""
     faults, count = [], 0
-    for folder in ("examples", "scenarios/drivers", "scenarios/hunt", "scenarios/not-found"):
+    for folder in ("examples", "scenarios/drivers", "scenarios/hunt", "scenarios/not-found", "scenarios/pictures"):
         names = sorted(name for name in os.listdir(os.path.join(ROOT, folder)) if name.endswith(".kmdf"))
         for name in names:
             fault = check_file(program, read(folder, name), seeds)

@@ -2,13 +2,14 @@
 """Writes docs/RULES.md from tools/rules.txt, or with --check says whether it is what would be written, but for the lines of its links.
 
 tools/rules.txt has a rule a line, with bars between its parts: its words, and the definitions that state it, with commas
-between them. Then, where the script doesn't find what shows most, its laws and its wrong bodies, by their names; `-` says that
-it has none of its own. A definition is a name of crates/wdf_model, or of the crate in brackets after it, or of the file there (a
-path below crates/); other brackets name a row. Each name has to exist, and one that several files of its crate have needs its
-file. The script adds the functions whose contracts cite a definition (code), and where no laws or wrong bodies are given, the
+between them. Then, where the script doesn't find what shows most, its laws and its wrong bodies, by their names (a law whose name
+two crates have as CRATE::NAME); `-` says that it has none of its own. A definition is a name of crates/wdf_model, or of the crate in brackets after it, or of the file there (a
+path below crates/); other brackets name a row, and the link leads to the first line of the definition that has its first word.
+Each name has to exist, and one that several files of its crate have needs its file. The script adds the functions whose contracts cite a definition (code), and where no laws or wrong bodies are given, the
 laws over it (functions without a body in the crates whose names begin with law_) and the wrong bodies inside the code. Some
 rule has to name each wrong body. A contract cites a definition where its file imports that name from the definition's crate,
-or says it after the name of a module of that crate; where the definition's file is given, from that file.
+or says it after the name of a module of that crate; where the definition's file is given, from that file. One cites a deed where
+it says it after `Deed`.
 """
 
 import re
@@ -21,6 +22,7 @@ CRATES = ROOT / "crates"
 RULES = ROOT / "tools" / "rules.txt"
 PAGE = ROOT / "docs" / "RULES.md"
 LAWS = "law_"
+DEEDS = "Deed"
 TESTS = ("test_", "check_")
 
 HEAD = """# The rules of the machine, and where each is kept
@@ -91,6 +93,19 @@ def place_of(path, name):
     return Place(path, begin(text.split("\n"), text.count("\n", 0, found[0]))) if found else None
 
 
+def row_in(place, name, row):
+    """The row of a definition that the first word of a remark names, or the definition where no line has it."""
+    lines = place.path.read_text().split("\n")
+    word = re.compile(rf"\b{re.escape(row.split()[0])}\b")
+    for number in range(place.line - 1, len(lines)):
+        other = DEFINITION.match(lines[number])
+        if other and other.group(1) != name and number > place.line:
+            break
+        if word.search(lines[number]) and not re.match(r"\s*--", lines[number]):
+            return Place(place.path, begin(lines, number))
+    return place
+
+
 def module_of(path):
     """The module that a file of definitions is, after its crate's `specs`; None for a file of code."""
     parts = path.relative_to(CRATES).with_suffix("").parts
@@ -115,20 +130,23 @@ def cited(contract, names, modules):
             yield *modules[module], name
         elif not module and name in names:
             yield *names[name], name
+        elif module == DEEDS:
+            yield "wdf_model", "", name
 
 
 def functions_of(path):
-    """The functions of a file: name, contract, first and last line, and where it is."""
+    """The functions of a file: name, contract, whether it has a body, first and last line, and where it is."""
     lines = path.read_text().split("\n")
     starts = [k for k, line in enumerate(lines) if FUNCTION.match(line)]
     for k, start in enumerate(starts):
         end = starts[k + 1] if k + 1 < len(starts) else len(lines)
-        contract = []
+        contract, has_body = [], True
         for line in lines[start + 1 : end]:
             if line.strip() in ("{", "{}"):
+                has_body = line.strip() == "{"
                 break
             contract.append(line)
-        yield FUNCTION.match(lines[start]).group(1), "\n".join(contract), start, end, Place(path, begin(lines, start))
+        yield FUNCTION.match(lines[start]).group(1), "\n".join(contract), has_body, start, end, Place(path, begin(lines, start))
 
 
 class Found:
@@ -150,7 +168,7 @@ class Found:
             lines = text.split("\n")
             names, modules = imports_of(text)
             mine = [(edit, told[1][5:]) for edit, told in edits if told[0] == f"file: {path.relative_to(folder)}"]
-            for name, contract, start, end, place in functions_of(path):
+            for name, contract, has_body, start, end, place in functions_of(path):
                 key = f"{crate}::{name}"
                 self.functions.setdefault(name, []).append((key, place))
                 for edit, old in mine:
@@ -158,13 +176,15 @@ class Found:
                         self.edits.setdefault(key, []).append(edit)
                 if "tests" in path.parts or crate.startswith(TESTS):
                     continue
+                if not has_body and not crate.startswith(LAWS):
+                    continue
                 table = self.laws if crate.startswith(LAWS) else self.code
                 for its_crate, module, definition in set(cited(contract, names, modules)):
                     table.setdefault((its_crate, definition), []).append((key, place, module))
 
     def law(self, name):
-        """The law with this name, with its file, or None where none or more than one has it."""
-        found = self.functions.get(name, [])
+        """The law with this name, `crate::name` or `name` alone, with its file, or None where none or more than one has it."""
+        found = [law for law in self.functions.get(name.split("::")[-1], []) if "::" not in name or law[0] == name]
         found = [law for law in found if law[0].startswith(LAWS)] or found
         return found[0] if len(found) == 1 else None
 
@@ -250,10 +270,13 @@ def page():
             if len(files) > 1:
                 wrong.append(f"{RULES.name}, line {number}: several files of {crate} have {name}: {', '.join(str(path.relative_to(CRATES)) for path in files)}")
                 continue
-            told.append(link(name, place) + (f" ({remark})" if remark and not (CRATES / remark).exists() else ""))
+            if remark and not (CRATES / remark).exists():
+                told.append(f"{link(name, row_in(place, last, remark))} ({remark})")
+            else:
+                told.append(link(name, place))
             module = module_of(file) if file else None
             functions = of_module(found.code.get((crate, last), []), module)
-            by_definition.append((last, [item for item in functions if item[0].split("::")[-1] not in (laws or ())]))
+            by_definition.append((last, [item for item in functions if not {item[0], item[0].split("::")[-1]} & set(laws or ())]))
             by_law += of_module(found.laws.get((crate, last), []), module)
         by_edit = [(edit.stem, Place(edit, None)) for _, functions in by_definition for key, _ in functions for edit in found.edits.get(key, [])]
         shown_laws, shown_edits = several(sorted(by_law)), several(sorted(by_edit))

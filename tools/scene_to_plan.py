@@ -10,6 +10,7 @@
     tools/scene_to_plan.py proofs tools/stack/*.scn > crates/law_stack_worked/proofs/StackRuns.antt
     tools/scene_to_plan.py specs SCENARIOS OF tools/idle > crates/law_idle_worked/specs/IdleSequences.antt
     tools/scene_to_plan.py proofs tools/idle/*.scn > crates/law_idle_worked/proofs/IdleRuns.antt
+    tools/scene_to_plan.py --check
 
 Each argument after the first is the path of a scenario `NAME.scn` with its trace beside it in `NAME.out`;
 NAME names the run. `specs` gives the plan, the events and the wait list of each, `proofs` that the definitions
@@ -17,6 +18,8 @@ of wdf_model compute them. The runs of tools/stack have two files of specs: Stac
 block, and StackRequests; those of tools/idle likewise IdleSequences and IdleRequests. The runs of scenarios/stuck have three: StuckObjects, StuckRequests and StuckSequences. They
 and those of scenarios/spinning are for crates/law_stuck_worked, and so are those of scenarios/silent, which targets
 never answer: of these only the specs are written here. What it writes still has to go through `rt fmt` in the crate.
+With --check it says which of these files isn't what it would write, but for layout, brackets, comments and imports, and which
+scenario is in none or in two files of specs.
 It serves the worked runs alone: what the program reads is read by its own parser.
 """
 import os
@@ -721,10 +724,11 @@ def cited_from(runs, subject, with_pnp, others):
     return "\n".join(f"use Rattle.law_{subject}_worked.specs.{m}.{{{', '.join(ws)}}}" for m, ws in words.items())
 
 
-def main():
-    runs = [Run(path) for path in sys.argv[2:]]
-    folder = os.path.basename(os.path.dirname(sys.argv[2]))
-    if sys.argv[1] == "specs":
+def made(mode, paths):
+    """The text of a file: the specs or the proofs of these scenarios, all of one folder."""
+    runs = [Run(path) for path in paths]
+    folder = os.path.basename(os.path.dirname(paths[0]))
+    if mode == "specs":
         head = SPECS_HEAD.replace("FOLDER", "tools/" + (folder if folder in BLAMED or folder in ("stack", "idle") else "runs"))
         texts = [run.definitions() for run in runs]
         parts = [needed(head, "\n".join(texts)), *texts]
@@ -738,7 +742,54 @@ def main():
         cited = f"use Rattle.{module}.{{{', '.join(words)}}}"
         used, over = (STUCK_OVER, "stuck_is_over") if folder in BLAMED else (OVER, "(over {} refl)")
         parts = [PROOFS_HEAD + used + cited] + [run.fact(over) for run in runs]
-    print("\n\n".join(parts))
+    return "\n\n".join(parts)
+
+
+ROOT = os.path.dirname(os.path.dirname(os.path.abspath(__file__)))
+# The files that are made: of each folder of scenarios those of specs, each with some of them, and that of proofs with all.
+MADE = {
+    **{f"tools/runs/{subject}": ([f"law_machine_worked/specs/RunsOf{subject.capitalize()}"], f"law_machine_worked/proofs/RunsOf{subject.capitalize()}")
+       for subject in ("power", "processors", "requests", "serial", "targets")},
+    "scenarios/stuck": ([f"law_stuck_worked/specs/Stuck{some}" for some in ("Objects", "Requests", "Sequences")], "law_stuck_worked/proofs/StuckRuns"),
+    "scenarios/spinning": (["law_stuck_worked/specs/SpinningRuns"], "law_stuck_worked/proofs/SpinningRuns"),
+    "scenarios/silent": (["law_stuck_worked/specs/SilentRuns"], None),
+    "tools/stack": ([f"law_stack_worked/specs/Stack{some}" for some in ("Orders", "Requests")], "law_stack_worked/proofs/StackRuns"),
+    "tools/idle": ([f"law_idle_worked/specs/Idle{some}" for some in ("Sequences", "Requests")], "law_idle_worked/proofs/IdleRuns"),
+}
+
+
+def bare(text):
+    """A text without layout, brackets, comments and imports, which a formatter or a person may change."""
+    return re.sub(r"[\s()]+", "", "".join(line for line in text.split("\n") if not re.match(r"\s*(use |--)", line)))
+
+
+def file_text(name):
+    with open(os.path.join(ROOT, "crates", name + ".antt"), encoding="utf-8") as file:
+        return file.read()
+
+
+def differences():
+    """What isn't as it would be written, a line each."""
+    said = []
+    for folder, (specs, proofs) in MADE.items():
+        place = os.path.join(ROOT, folder)
+        paths = [os.path.join(place, name) for name in sorted(os.listdir(place)) if name.endswith(".scn")]
+        texts = [file_text(name) for name in specs]
+        mine = [[path for path in paths if re.search(rf"^abbrev pub {os.path.basename(path)[:-4]}_plan :", text, re.M)] for text in texts]
+        said += [f"{os.path.relpath(path, ROOT)} is in {found} files of specs" for path in paths for found in [sum(path in some for some in mine)] if found != 1]
+        files = [("specs", name, text, some) for name, text, some in zip(specs, texts, mine)]
+        files += [("proofs", proofs, file_text(proofs), paths)] if proofs else []
+        for mode, name, text, some in files:
+            if not some or bare(made(mode, some)) != bare(text):
+                said.append(f"crates/{name}.antt isn't what tools/scene_to_plan.py writes")
+    return said
+
+
+def main():
+    if sys.argv[1:] == ["--check"]:
+        said = differences()
+        sys.exit("\n".join(said) if said else 0)
+    print(made(sys.argv[1], sys.argv[2:]))
 
 
 if __name__ == "__main__":

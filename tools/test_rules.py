@@ -50,13 +50,34 @@ pub fn also_takes(queue: &Queue) -> u32
 
 pub fn stays(queue: &mut Queue)
     ensures { queue.new ≡ queues.waits queue.old }
-{}
+{
+    queue.front += 0;
+}
 
 pub fn waits(count: u32) -> u32
     ensures { result ≡ others.waits count }
 {
     count
 }
+
+/// A law in a crate of code.
+pub fn one_takes()
+    ensures { (q : Queue) → queues.takes q ≡ queues.takes q }
+{}
+
+/// A deed is done.
+pub fn put_one(queue: &mut Queue)
+    ensures { queue.new ≡ do_deed (Deed.Put 1) queue.old }
+{
+    queue.front = 1;
+}
+"""
+DEED = "pub enum Deed {\n    /// A front is put.\n    Put { front: u32 },\n    /// It is taken.\n    Take,\n}\n"
+DEEDS = """-- what a deed does
+abbrev pub do_deed : Deed → Queue → Queue
+do_deed (Take) q = drops q
+-- a front is put
+do_deed (Put n) q = record { front = n }
 """
 LAW = """ghost use Rattle.wdf_model.specs.Queues.{takes};
 
@@ -74,6 +95,7 @@ a queue drops | drops | drops_once | -
 its front is kept | Queue.front | - | front_is_zero
 a queue waits | waits (wdf_model/specs/Queues.antt) | - | -
 one of two definitions | takes, waits (wdf_model/specs/Queues.antt) | - | -
+a row of a definition, and a deed | do_deed (Put), Put | - | -
 """
 MODEL_FILE, PART_FILE = "../crates/wdf_model/specs/Queues.antt", "../crates/wdf_part/src/lib.rt"
 WANTED = [
@@ -83,6 +105,8 @@ WANTED = [
     f"| its front is kept | [`Queue.front`]({MODEL_FILE}#L3) |  |  | [`front_is_zero`](../crates/wdf_part/must-fail/front_is_zero.edit) |",
     f"| a queue waits | [`waits`]({MODEL_FILE}#L10) | [`wdf_part::stays`]({PART_FILE}#L25) |  |  |",
     f"| one of two definitions | [`takes`]({MODEL_FILE}#L4), [`waits`]({MODEL_FILE}#L10) | [`wdf_part::takes`]({PART_FILE}#L5), [`wdf_part::stays`]({PART_FILE}#L25) |  |  |",
+    f"| a row of a definition, and a deed | [`do_deed`](../crates/wdf_model/specs/Deeds.antt#L4) (Put), [`Put`](../crates/wdf_model/src/deed.rt#L2) "
+    f"| [`wdf_part::put_one`]({PART_FILE}#L42) |  |  |",
 ]
 # Rules that don't name the one wrong body.
 UNNAMED = "Queues\na queue drops | drops | drops_once | -\n"
@@ -107,6 +131,8 @@ def page_of(rules_text, then=lambda text: text):
         rules.CRATES, rules.RULES = Path(room) / "crates", Path(room) / "rules.txt"
         put(rules.CRATES / "wdf_model/specs/Queues.antt", MODEL)
         put(rules.CRATES / "wdf_model/specs/Others.antt", OTHERS)
+        put(rules.CRATES / "wdf_model/specs/Deeds.antt", DEEDS)
+        put(rules.CRATES / "wdf_model/src/deed.rt", DEED)
         put(rules.CRATES / "law_queue/src/lib.rt", LAW)
         put(rules.CRATES / "law_other/src/lib.rt", LAWS)
         put(rules.CRATES / "wdf_part/src/lib.rt", PART)

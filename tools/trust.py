@@ -89,7 +89,7 @@ wrong in any way that the prover lets through, and what is promised still holds.
 - The system's streams: no contract can say what a file or a terminal gives or takes. What is said of bytes is said of a
   reader and a writer that say theirs.
 - That the written machine is the Kernel-Mode Driver Framework in the stated profile. Each rule of `docs/RULES.md` names its
-  definition, and the comments mark each with (KMDF) or (own).
+  definition, and most comments mark theirs with (KMDF) or (own).
 
 No clause says that memory is there when there should be some, that `run` or `watch` returns, or how long anything takes.
 `docs/PROVED.md` has the bounds of each claim, and what is only tested.
@@ -301,22 +301,6 @@ class Sources:
                     found[following] = at
                     waiting.append(following)
         return found
-
-
-def contract_of(sources):
-    """The contract of START, and the text of CLAUSE in it."""
-    crate, place, name = START
-    text = sources.file(crate, place).text
-    found = re.search(rf"^pub fn {name}\b.*?^\{{", text, re.M | re.S)
-    clause = re.search(rf"ensures {CLAUSE} \{{.*?(?=\n    (?://|ensures)|\n\{{)", found.group(0), re.S)
-    return found.group(0), clause.group(0)
-
-
-def first_of(sources, text):
-    """What a piece of START's contract names."""
-    crate, place, _ = START
-    file = sources.file(crate, place)
-    return [*sources.named_in(text, file.names, file.modules), *sources.types_in(crate, place, text)]
 
 
 def contract_of(sources):

@@ -9,9 +9,9 @@
 //!   an event: `NotReady`, also where the run has ended or the number is another. Then whether it is the text of an
 //!   ending or of a wait line: `WrongEnding`. Else `NotALine`. A line after the whole text of a run gets its reason
 //!   in the same way. So `NotALine` says that no trace of the plan has such a line.
-//! - **How is an event found?** The line is read to its event, whose number must be the next one. The event is
-//!   compared with each that may follow, in their order, with everything that its line shows. Nothing is printed for
-//!   it. The search by an actor would look at the same events, so it isn't used.
+//! - **How is an event found?** The line is read to its event, whose number must be the next one. The core tests that
+//!   event alone, and takes it exactly where it may follow (`Core::apply_event`). So no others are looked for, but for
+//!   a tick, which follows only where nothing else may come.
 //! - **How are the lines after the events compared?** The line that comes next is printed and compared byte by byte.
 //!   There is one such line at a time.
 //! - **What is left on the core?** The events of the good lines, so that a caller can ask how the run is where the

@@ -38,22 +38,8 @@ const USAGE: &[u8] =
 /// scenario that N generates. `load N` reads nothing, runs that scenario by the words of N, and writes the summary
 /// of the run. `idle` and `stack` run as `order` does: `idle` with a policy that puts idle devices to sleep, `stack` with
 /// targets that are the queues of the device below. `lint` writes what a walk of each callback's statements finds, a line
-/// for each finding, or `clean`. What is no form gets the usage line; so does `run`, which this call doesn't serve. Nothing else is
-/// written.
-///
-/// | status | when |
-/// |---|---|
-/// | 0 | `check` or `replay` accepted; `lint` found nothing; the run finished; `gen N` wrote its scenario |
-/// | 2 | the words are no form |
-/// | 3, 4, 5 | the run ended in a driver fault, stuck, at its limit |
-/// | 6 | `replay` found a bad line |
-/// | 7 | `lint` found something |
-/// | 10 | the input is no scenario |
-/// | 11 | the scenario has no plan |
-/// | 12 | a read failed |
-/// | 13 | a write failed; a front of the text was written |
-/// | 14 | the input has more than 1,048,576 bytes |
-/// | 15 | out of memory |
+/// for each finding, or `clean`. What is no form gets the usage line. So do `run` and `watch`, which this call doesn't serve.
+/// Nothing else is written. The section Statuses of `docs/SCENARIO.md` says when each status comes.
 pub fn top_plain<S: Source, K: Sink>(
     alloc: Global,
     words: &[String],
