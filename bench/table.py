@@ -13,7 +13,7 @@ smaller size took less than 20 ms. `replay` reads 1 MiB at most, and says "too l
 are run.
 
 The kinds are reads, removals of a device, interrupts, a loop, locks, cancels in a queue, queues, devices, timers that are due at
-ticks of their own, work items, apps, children of one object and classes. Then those in which much waits at once: frames that are
+ticks of their own, work items, apps, what `gen 7` writes, children of one object and classes. Then those in which much waits at once: frames that are
 parked, timers that are due at one tick, removals where a class declares a callback for its cleanup or destruction, and many
 requests for which EvtRequestCancel, EvtIoCanceledOnQueue or EvtIoStop is due, or whose queue declares EvtIoResume. Other kinds
 of work may grow otherwise.
@@ -157,6 +157,7 @@ KINDS = {
     "timers": (timers, (500, 1000, 2000, 4000)),
     "work items": (work_items, (250, 500, 1000)),
     "apps": (machine.apps, (4, 16, 64, 256)),
+    "gen": (None, (7,)),
     "children": (children, (500, 1000, 2000, 4000)),
     "classes": (classes, (4, 16, 64, 250)),
     "parked": (parked, (64, 128, 256)),
@@ -168,6 +169,11 @@ KINDS = {
     "stops": (stops, (255, 510, 1020)),
     "resumes": (resumes, (255, 510, 1020)),
 }
+
+
+def scenario(program, make, size):
+    """The text of a kind of work at a size; without a function that makes it, what the program generates of that number."""
+    return make(size) if make else run(f"gen {size}", b"", program)[0].decode()
 
 
 def events_of(trace):
@@ -229,7 +235,7 @@ def main():
     for name in names:
         before = {}
         for size in KINDS[name][1]:
-            count, figures = columns(program, KINDS[name][0](size))
+            count, figures = columns(program, scenario(program, KINDS[name][0], size))
             print(f"{name:12}{size:6}{count:6}" + "".join(f"|{cell(figures.get(w), before.get(w))} " for w in order), flush=True)
             before = figures
 
