@@ -21,7 +21,7 @@ use Rattle.wdf_base.specs.declared.object.Life.{Life}
 use Rattle.wdf_base.specs.declared.object.Life.TheVariants as life
 use Rattle.wdf_base.specs.declared.plan.Plan.{Plan}
 use Rattle.wdf_base.specs.declared.script.Script.{Script}
-use Rattle.wdf_base.specs.Lives.{is_asked, is_live, is_past_cleanup}
+use Rattle.wdf_base.specs.Lives.{is_asked, is_cleaned, is_gone, is_live, is_past_cleanup}
 use Rattle.wdf_base.specs.Places.{is_done, is_sent}
 use Rattle.wdf_base.specs.Plan.{is_script_of}
 use Rattle.wdf_base.specs.Same.{same_callback, same_kind, same_lock}
@@ -38,7 +38,7 @@ use Rattle.wdf_model.specs.parts.Cpus.{is_empty_cpu, nobody_on}
 use Rattle.wdf_model.specs.parts.Deferred.WorkItems.{is_work_queued}
 use Rattle.wdf_model.specs.parts.Locks.{Locks, is_free_hold, is_free_if_any, parent_lock}
 use Rattle.wdf_model.specs.parts.Requests.{place_of}
-use Rattle.wdf_model.specs.parts.Tree.{children, gone, kind_of, life_of, may_clean, may_destroy, parent_of, started, younger_siblings}
+use Rattle.wdf_model.specs.parts.Tree.{children, counts, gone, kind_of, life_of, may_clean, may_destroy, node_of, parent_of, references_of, started, younger_siblings}
 use Rattle.wdf_model.specs.rules.Groups.{is_declared_somewhere, places_in, starts}
 use Rattle.wdf_model.specs.rules.Starts.{callback_over, clean_ready, destroy_ready, is_finished, is_unused}
 use Rattle.wdf_model.specs.rules.Steps.{is_cpu, may}
@@ -50,11 +50,12 @@ use Rattle.wdf_request.specs.Closing.{is_out}
 use Rattle.wdf_sets.specs.Nexts.{IsNext, NoneFrom}
 use Rattle.wdf_ready.specs.declared.leaving.Leaving.{Leaving}
 use Rattle.wdf_ready.specs.declared.leaving.Leaving.TheVariants as leaving
-use Rattle.wdf_ready.specs.Leaving.{DeletedSettled, IsSettled, event_of, fits_part, fitting, group_of, is_busy, is_kept, is_numbered, is_serial, is_unlocked, leavers, may_leave}
+use Rattle.wdf_ready.specs.Leaving.{DeletedSettled, IsNumbered, IsSettled, event_of, fits_part, fitting, group_of, is_busy, is_kept, is_serial, is_unlocked, leavers, may_leave}
 use Rattle.wdf_defer.specs.WorkItems.{AreInOrder}
 use Rattle.wdf_ready.specs.Lesser.{lesser_of}
 use Rattle.wdf_ready.specs.Search.{NoneBefore, if_allowed, offered, offered_from}
 use Rattle.wdf_ready.proofs.Begins.{start_parts}
+use Rattle.wdf_ready.proofs.NotOffered.{cleaned_there, in_turn, left_there, uncounted}
 use Rattle.wdf_ready.proofs.Passing.{none_at}
 use Rattle.wdf_ready.proofs.Straight.{clean_up_parts, end_parts}
 
@@ -237,12 +238,52 @@ no_script : (plan : Plan) (c : Callback) → is_declared_somewhere plan c ≡ fa
 no_script plan c h None = refl
 no_script plan c h (Some d) = none_at (is_script_of c d) plan.scripts (length plan.scripts) (omega arith) (none_passes c plan.scripts h d (length plan.scripts))
 
-over : {A : Type 0} (plan : Plan) (S : State A) (c : Callback) → is_declared_somewhere plan c ≡ false → (o : ℕ) → callback_over plan S c o ≡ true
-over plan S c h o = ap (λ s. not (is_some s) || started S.tree o c) (no_script plan c h (declared_in plan S o))
-
-and_left : (a b : Bool) → b ≡ true → a ≡ (a && b)
-and_left true b e = sym e
+and_left : (a b : Bool) → (a ≡ true → b ≡ true) → a ≡ (a && b)
+and_left true b e = sym (e refl)
 and_left false b e = refl
+
+-- ---- callbacks that aren't to come
+
+-- what is there counts, or declares no callback
+uncounted_over : {A : Type 0} (plan : Plan) (S : State A) (c : Callback) (o : ℕ) (b : Bool) → counts (node_of S.tree o) ≡ b → is_gone (life_of S.tree o) ≡ false → ((o < length S.tree.nodes) → b ≡ false) → callback_over plan S c o ≡ true
+uncounted_over plan S c o false e there none = ap (λ d. not d || started S.tree o c) (uncounted plan S c o there e)
+uncounted_over plan S c o true e there none = absurd (by (cases_lt o (length S.tree.nodes)))
+  where
+    by : (o < length S.tree.nodes) ⊎ (length S.tree.nodes ≤ o) → ⊥
+    by (inl within) = let off = none within in let z : ⊥ = cc in z
+    by (inr past) = let off : is_gone (life_of S.tree o) ≡ true = ap (λ (n : Node). is_gone n.life) (entry_past gone S.tree.nodes o past) in let z : ⊥ = cc in z
+
+none_counts : (a b : Bool) → a ≡ true → (a && b) ≡ false → b ≡ false
+none_counts true b e h = h
+none_counts false b e h = absurd (let z : ⊥ = cc in z)
+
+-- nothing declares the callback
+pub none_over : {A : Type 0} (plan : Plan) (S : State A) (c : Callback) → is_declared_somewhere plan c ≡ false → (o : ℕ) → callback_over plan S c o ≡ true
+none_over plan S c h o = ap (λ s. not (is_some s) || started S.tree o c) (no_script plan c h (declared_in plan S o))
+
+-- nothing was found
+pub none_is : (found : Option ℕ) (none : Type 0) (some_one : ℕ → Type 0) → MatchOption found none some_one → is_some found ≡ false → none
+none_is None none some_one h e = h
+none_is (Some x) none some_one h e = absurd (let z : ⊥ = cc in z)
+
+module _ {A : Type 0} (plan : Plan) (S : State A) (n : ℕ) (all : n ≡ length S.tree.nodes) where
+  -- only arrived requests have their turn
+  pub turns_over : NoneFrom (λ o. may_clean S.tree o && counts (node_of S.tree o)) 0 n → IsNumbered plan S leaving.Cleanup
+  turns_over none o on =
+      uncounted_over plan S callback.EvtCleanupCallback o (counts (node_of S.tree o)) refl (left_there (life_of S.tree o) (in_turn S o on))
+      (λ within. none_counts (may_clean S.tree o) (counts (node_of S.tree o)) on (none o (omega arith) (omega arith)))
+
+  -- only arrived requests are cleaned
+  pub ends_over : NoneFrom (λ o. is_cleaned (life_of S.tree o) && counts (node_of S.tree o)) 0 n → IsNumbered plan S leaving.Destroy
+  ends_over none o on =
+      let cleaned : is_cleaned (life_of S.tree o) ≡ true = cleaned_of S o on in
+      uncounted_over plan S callback.EvtDestroyCallback o (counts (node_of S.tree o)) refl (cleaned_there (life_of S.tree o) cleaned)
+      (λ within. none_counts (is_cleaned (life_of S.tree o)) (counts (node_of S.tree o)) cleaned (none o (omega arith) (omega arith)))
+    where
+      cleaned_of : (T : State A) (x : ℕ) → may_destroy T.tree x ≡ true → is_cleaned (life_of T.tree x) ≡ true
+      cleaned_of T x h =
+          both_left (is_cleaned (life_of T.tree x)) (references_of T.tree x == 0)
+          (both_left (is_cleaned (life_of T.tree x) && references_of T.tree x == 0) (length (children T.tree x) == 0) h)
 
 whole : (n : ℕ) → n - 0 ≡ n
 whole n = omega arith
@@ -321,18 +362,18 @@ filter_within p r h [] = refl
 filter_within p r h (x ∷ xs) = filter_by p r x xs (p x) (r x) refl refl (h x) (filter_within p r h xs)
 
 module _ {A : Type 0} (plan : Plan) (m : Meaning A) (S : State A) where
-  gives_cleanup : is_declared_somewhere plan callback.EvtCleanupCallback ≡ false → (o : ℕ)
+  gives_cleanup : IsNumbered plan S leaving.Cleanup → (o : ℕ)
       → offered plan m S group.Cleanups o ≡ (if may_leave leaving.Cleanup S o then Some (event_of leaving.Cleanup (handle_in plan S o)) else None)
   gives_cleanup h o =
       let same : may plan m S (event.Cleanup (handle_in plan S o)) ≡ clean_ready S o
-      = sym (and_left (clean_ready S o) (callback_over plan S callback.EvtCleanupCallback o) (over plan S callback.EvtCleanupCallback h o) ∙ clean_up_parts plan m S o) in
+      = sym (and_left (clean_ready S o) (callback_over plan S callback.EvtCleanupCallback o) (λ ready. h o (part leaving.Cleanup S o ready)) ∙ clean_up_parts plan m S o) in
       ap (λ b. if b then Some (event.Cleanup (handle_in plan S o)) else None) same
 
-  gives_end : is_declared_somewhere plan callback.EvtDestroyCallback ≡ false → (o : ℕ)
+  gives_end : IsNumbered plan S leaving.Destroy → (o : ℕ)
       → offered plan m S group.Destroys o ≡ (if may_leave leaving.Destroy S o then Some (event_of leaving.Destroy (handle_in plan S o)) else None)
   gives_end h o =
       let same : may plan m S (event.Destroy (handle_in plan S o)) ≡ destroy_ready S o
-      = sym (and_left (destroy_ready S o) (callback_over plan S callback.EvtDestroyCallback o) (over plan S callback.EvtDestroyCallback h o) ∙ end_parts plan m S o) in
+      = sym (and_left (destroy_ready S o) (callback_over plan S callback.EvtDestroyCallback o) (λ ready. h o (part leaving.Destroy S o ready)) ∙ end_parts plan m S o) in
       ap (λ b. if b then Some (event.Destroy (handle_in plan S o)) else None) same
 
   -- where each id has a place, and it is offered where it may leave
@@ -352,7 +393,7 @@ module _ {A : Type 0} (plan : Plan) (m : Meaning A) (S : State A) where
 
   -- ---- work items
 
-  module _ (cpu : ℕ) (numbered : is_numbered plan S (leaving.Work cpu) ≡ true) (settled : IsSettled plan S) (order : AreInOrder S.work_items) where
+  module _ (cpu : ℕ) (numbered : IsNumbered plan S (leaving.Work cpu)) (settled : IsSettled plan S) (order : AreInOrder S.work_items) where
     places_of_work : places_in plan S (group.Starts cpu rank.Work) - 0 ≡ length S.work_items.queued
     places_of_work = whole (length S.work_items.queued)
 
@@ -402,19 +443,19 @@ module _ {A : Type 0} (plan : Plan) (m : Meaning A) (S : State A) where
         ∙ ap (λ xs. option_map (λ o. event_of (leaving.Work cpu) (handle_in plan S o)) (slice_get xs k)) leavers_queued
 
   -- as many may come as may leave
-  pub leavers_counted : (l : Leaving) → is_numbered plan S l ≡ true → IsSettled plan S → AreInOrder S.work_items → length (leavers l S) ≡ length (offered_from plan m S (group_of l) 0)
-  leavers_counted leaving.Cleanup n s i = counted_by leaving.Cleanup refl (gives_cleanup (not_true (is_declared_somewhere plan callback.EvtCleanupCallback) n))
-  leavers_counted leaving.Destroy n s i = counted_by leaving.Destroy refl (gives_end (not_true (is_declared_somewhere plan callback.EvtDestroyCallback) n))
+  pub leavers_counted : (l : Leaving) → IsNumbered plan S l → IsSettled plan S → AreInOrder S.work_items → length (leavers l S) ≡ length (offered_from plan m S (group_of l) 0)
+  leavers_counted leaving.Cleanup n s i = counted_by leaving.Cleanup refl (gives_cleanup n)
+  leavers_counted leaving.Destroy n s i = counted_by leaving.Destroy refl (gives_end n)
   leavers_counted (leaving.Work cpu) n s i = works_counted cpu n s i
 
   -- and the k-th is that of the k-th of these
-  leaver_at : (l : Leaving) → is_numbered plan S l ≡ true → IsSettled plan S → AreInOrder S.work_items → (k : ℕ)
+  leaver_at : (l : Leaving) → IsNumbered plan S l → IsSettled plan S → AreInOrder S.work_items → (k : ℕ)
       → slice_get (offered_from plan m S (group_of l) 0) k ≡ option_map (λ o. event_of l (handle_in plan S o)) (slice_get (leavers l S) k)
-  leaver_at leaving.Cleanup n s i k = found_by leaving.Cleanup refl (gives_cleanup (not_true (is_declared_somewhere plan callback.EvtCleanupCallback) n)) k
-  leaver_at leaving.Destroy n s i k = found_by leaving.Destroy refl (gives_end (not_true (is_declared_somewhere plan callback.EvtDestroyCallback) n)) k
+  leaver_at leaving.Cleanup n s i k = found_by leaving.Cleanup refl (gives_cleanup n) k
+  leaver_at leaving.Destroy n s i k = found_by leaving.Destroy refl (gives_end n) k
   leaver_at (leaving.Work cpu) n s i k = work_found cpu n s i k
 
-  pub leaver_is : (l : Leaving) → is_numbered plan S l ≡ true → IsSettled plan S → AreInOrder S.work_items → (k : ℕ) (found : Option ObjectId) (o : ObjectId) → found ≡ Some o → option_map (λ (x : ObjectId). x.0) found ≡ slice_get (leavers l S) k
+  pub leaver_is : (l : Leaving) → IsNumbered plan S l → IsSettled plan S → AreInOrder S.work_items → (k : ℕ) (found : Option ObjectId) (o : ObjectId) → found ≡ Some o → option_map (λ (x : ObjectId). x.0) found ≡ slice_get (leavers l S) k
       → slice_get (offered_from plan m S (group_of l) 0) k ≡ Some (event_of l (handle_in plan S o.0))
   leaver_is l n s i k found o is e =
       let at : slice_get (leavers l S) k ≡ Some o.0 = sym e ∙ ap (option_map (λ (x : ObjectId). x.0)) is in

@@ -15,6 +15,7 @@ pub mod Begins
 pub mod Counting
 pub mod Decided
 mod DueTimers
+mod CountedStarts
 pub mod Numbered
 pub mod Leavers
 pub mod SidesOfGroups

@@ -2,7 +2,7 @@
 -- on an object whose life doesn't let its callback start. No cleanup is offered of an object whose turn hasn't come.
 use Rattle.std.proofs.Common.{if◌then◌else◌, Bool, true, false, not, ◌&&◌, ◌==◌, nat_lt, ℕ, zero, suc, ◌≡◌, ◌<◌, ◌≤◌, List, [], ◌∷◌, length, Option, Some, None, option_map, is_some, unwrap_or, slice_get, ◌||◌, refl, arith}
 use Rattle.std.proofs.lemmas.Bool.{eqb-false, eqb-true, le-ltb, ltb-false}
-use Rattle.std.specs.List.{list_any}
+use Rattle.std.specs.List.{list_all, list_any}
 use Rattle.std.specs.Option.{option_and_then}
 use Rattle.wdf_base.specs.Meaning.{Meaning}
 use Rattle.wdf_base.specs.declared.plan.Plan.{Plan}
@@ -21,11 +21,14 @@ use Rattle.wdf_base.specs.declared.object.RequestForm.TheVariants as form
 use Rattle.wdf_base.specs.declared.rank.Rank.{Rank}
 use Rattle.wdf_base.specs.declared.rank.Rank.TheVariants as rank
 use Rattle.wdf_base.specs.Places.{is_returning_to}
-use Rattle.wdf_base.specs.Lives.{is_cleaned}
+use Rattle.wdf_base.specs.Lives.{is_asked, is_cleaned, is_gone, is_past_cleanup}
+use Rattle.wdf_base.specs.declared.object.Life.{Life}
+use Rattle.wdf_base.specs.declared.object.Life.TheVariants as life
 use Rattle.wdf_base.specs.Callbacks.{dpc_function}
-use Rattle.wdf_model.proofs.Tests.{left_fails, not_true, right_fails}
+use Rattle.wdf_model.proofs.Tests.{both_left, left_fails, not_true, right_fails}
 use Rattle.wdf_model.specs.Ids.{cpu_of}
 use Rattle.wdf_model.specs.declared.entries.Holding.{Holding}
+use Rattle.wdf_model.specs.declared.entries.Node.{Node}
 use Rattle.wdf_model.specs.declared.entries.Request.{Request}
 use Rattle.wdf_model.specs.declared.entries.Sending.{Sending}
 use Rattle.wdf_model.specs.declared.entries.Timed.{Timed}
@@ -42,14 +45,14 @@ use Rattle.wdf_model.specs.parts.Power.{no_holding, resume_due, stop_was_asked}
 use Rattle.wdf_model.specs.parts.Queues.{front}
 use Rattle.wdf_model.specs.parts.Requests.{info_of, no_request}
 use Rattle.wdf_model.specs.parts.Targets.{the_target}
-use Rattle.wdf_model.specs.parts.Tree.{kind_of, life_of, may_clean, nearest_device, started}
+use Rattle.wdf_model.specs.parts.Tree.{children, counts, kind_of, life_of, made_as, may_clean, nearest_device, node_of, parent_of, started, younger_siblings}
 use Rattle.wdf_model.specs.rules.Groups.{callback_for, handler_start, if_there, start_at, starts, starts_for, unparks}
 use Rattle.wdf_model.specs.rules.Starts.{clean_ready, is_finished, is_ready_for, is_unused, level_fits, life_fits, may_start}
 use Rattle.wdf_model.specs.rules.Steps.{is_cpu, is_proper_if_any, may, wait_is_over}
 use Rattle.wdf_base.specs.Callbacks.{row_of}
-use Rattle.wdf_base.specs.Same.{same_callback, same_option}
+use Rattle.wdf_base.specs.Same.{same_callback, same_kind, same_option}
 use Rattle.wdf_base.specs.declared.event.Step.{Step}
-use Rattle.wdf_model.specs.Plans.{interrupt_of, is_manual_queue}
+use Rattle.wdf_model.specs.Plans.{interrupt_of, is_manual_queue, script_on}
 use Rattle.wdf_model.specs.State.{queue_delivers}
 use Rattle.wdf_model.specs.Tables.{same_id}
 use Rattle.wdf_model.specs.parts.Control.{notify_due}
@@ -154,6 +157,40 @@ not_its_turn S o h =
     left_fails (may_clean S.tree o && is_unused S o && is_finished S o) (nothing_at S o)
     (left_fails (may_clean S.tree o && is_unused S o) (is_finished S o) (left_fails (may_clean S.tree o) (is_unused S o) h))
 
+-- ---- arrived requests
+
+second_fails : (a b : Bool) → a ≡ true → (a && b) ≡ false → b ≡ false
+second_fails true b e h = h
+second_fails false b e h = absurd (let z : ⊥ = cc in z)
+
+-- what is asked, or cleaned, is there
+pub left_there : (l : Life) → is_asked l ≡ true → is_gone l ≡ false
+left_there life.Gone h = absurd (let z : ⊥ = cc in z)
+left_there _ h = refl
+
+pub cleaned_there : (l : Life) → is_cleaned l ≡ true → is_gone l ≡ false
+cleaned_there life.Gone h = absurd (let z : ⊥ = cc in z)
+cleaned_there _ h = refl
+
+pub in_turn : {A : Type 0} (S : State A) (o : ℕ) → may_clean S.tree o ≡ true → is_asked (life_of S.tree o) ≡ true
+in_turn S o h =
+    both_left (is_asked (life_of S.tree o)) (list_all (λ x. is_past_cleanup (life_of S.tree x)) (children S.tree o))
+    (both_left (is_asked (life_of S.tree o) && list_all (λ x. is_past_cleanup (life_of S.tree x)) (children S.tree o))
+    (not (is_asked (life_of S.tree (parent_of S.tree o))) || list_all (λ x. is_past_cleanup (life_of S.tree x)) (younger_siblings S.tree o)) h)
+
+request_by : (plan : Plan) (c : Callback) (n : Node) (o : ℕ) (k : Kind) → same_kind k kind.Request ≡ true → is_some (script_on plan c (made_as plan n o k)) ≡ false
+request_by plan c n o kind.Request h = refl
+request_by plan c n o _ h = absurd (let z : ⊥ = cc in z)
+
+is_request : (gone_is request : Bool) → gone_is ≡ false → (not gone_is && not request) ≡ false → request ≡ true
+is_request false true e h = refl
+is_request false false e h = absurd (let z : ⊥ = cc in z)
+is_request true request e h = absurd (let z : ⊥ = cc in z)
+
+-- what is there and doesn't count is an arrived request, which declares no callback
+pub uncounted : {A : Type 0} (plan : Plan) (S : State A) (c : Callback) (o : ℕ) → is_gone (life_of S.tree o) ≡ false → counts (node_of S.tree o) ≡ false → declares_in plan S c o ≡ false
+uncounted plan S c o there h = request_by plan c (node_of S.tree o) o (kind_of S.tree o) (is_request (is_gone (life_of S.tree o)) (same_kind (kind_of S.tree o) kind.Request) there h)
+
 -- ---- starts
 
 module _ {A : Type 0} (plan : Plan) (m : Meaning A) (S : State A) where
@@ -195,6 +232,15 @@ module _ {A : Type 0} (plan : Plan) (m : Meaning A) (S : State A) where
         (left_fails (declares_in plan S c o && life_fits S c o && level_fits S cpu (callback_irql plan c o)) (is_free_if_any S.locks (lock_of_callback plan c o (declared_in plan S o)))
         (left_fails (declares_in plan S c o && life_fits S c o) (level_fits S cpu (callback_irql plan c o))
         (right_fails (declares_in plan S c o) (life_fits S c o) h))))
+
+    -- nor one that the object doesn't declare
+    not_declared : declares_in plan S c o ≡ false → if_allowed plan m S (Some (event.Start (cpu_of cpu) c (handle_in plan S o) r)) ≡ None
+    not_declared h =
+        not_started
+        (left_fails (declares_in plan S c o && life_fits S c o && level_fits S cpu (callback_irql plan c o) && is_free_if_any S.locks (lock_of_callback plan c o (declared_in plan S o))) (is_ready_for plan m S cpu c o r)
+        (left_fails (declares_in plan S c o && life_fits S c o && level_fits S cpu (callback_irql plan c o)) (is_free_if_any S.locks (lock_of_callback plan c o (declared_in plan S o)))
+        (left_fails (declares_in plan S c o && life_fits S c o) (level_fits S cpu (callback_irql plan c o))
+        (left_fails (declares_in plan S c o) (life_fits S c o) h))))
 
     -- nor one that isn't due
     pub not_ready : is_ready_for plan m S cpu c o r ≡ false → if_allowed plan m S (Some (event.Start (cpu_of cpu) c (handle_in plan S o) r)) ≡ None
@@ -326,6 +372,18 @@ module _ {A : Type 0} (plan : Plan) (m : Meaning A) (S : State A) where
   no_timer_by cpu None h = refl
   no_timer_by cpu (Some t) h = not_ready cpu callback.EvtTimerFunc t.timer.0 None (left_fails (timer_due S.timers t.timer.0 S.clock) (nobody_on S.cpus t.timer.0) h)
 
+  -- no cleanup callback starts on an object whose turn hasn't come, no destroy callback on one that isn't cleaned, and neither
+  -- on an arrived request
+  no_cleanup_start : (cpu o : ℕ) (b : Bool) → may_clean S.tree o ≡ b → (may_clean S.tree o && counts (node_of S.tree o)) ≡ false → offered plan m S (group.Starts cpu rank.Cleanup) o ≡ None
+  no_cleanup_start cpu o false e h = not_ready cpu callback.EvtCleanupCallback o None (left_fails (clean_ready S o) (not (started S.tree o callback.EvtCleanupCallback)) (not_its_turn S o e))
+  no_cleanup_start cpu o true e h = not_declared cpu callback.EvtCleanupCallback o None (uncounted plan S callback.EvtCleanupCallback o (left_there (life_of S.tree o) (in_turn S o e)) (second_fails (may_clean S.tree o) (counts (node_of S.tree o)) e h))
+
+  no_destroy_start : (cpu o : ℕ) (b : Bool) → is_cleaned (life_of S.tree o) ≡ b → (is_cleaned (life_of S.tree o) && counts (node_of S.tree o)) ≡ false → offered plan m S (group.Starts cpu rank.Destroy) o ≡ None
+  no_destroy_start cpu o false e h = not_alive cpu callback.EvtDestroyCallback o None e
+  no_destroy_start cpu o true e h =
+      not_declared cpu callback.EvtDestroyCallback o None
+      (uncounted plan S callback.EvtDestroyCallback o (cleaned_there (life_of S.tree o) e) (second_fails (is_cleaned (life_of S.tree o)) (counts (node_of S.tree o)) e h))
+
   -- no callback starts where one part rules it out
   pub cannot_start : (cpu : ℕ) (r : Rank) (k : ℕ) → can_start_at S r k ≡ false → offered plan m S (group.Starts cpu r) k ≡ None
   cannot_start cpu rank.Isr k h =
@@ -337,6 +395,8 @@ module _ {A : Type 0} (plan : Plan) (m : Meaning A) (S : State A) where
   cannot_start cpu rank.Handler k h = no_front_by cpu k (waiting_in S.queues k) h
   cannot_start cpu rank.Sequence k h = no_step_by cpu k (steps_left S.pnp k) h
   cannot_start cpu rank.Timed k h = no_timer_by cpu (slice_get S.timers.queued k) h
+  cannot_start cpu rank.Cleanup o h = no_cleanup_start cpu o (may_clean S.tree o) refl h
+  cannot_start cpu rank.Destroy o h = no_destroy_start cpu o (is_cleaned (life_of S.tree o)) refl h
   cannot_start cpu _ k h = absurd (let z : ⊥ = cc in z)
 
   no_stage_by : (d : ℕ) (left : List Step) → nat_lt 0 (length left) ≡ false → if_allowed plan m S (option_and_then (stage_of_step plan S d) (first_of_list left)) ≡ None
@@ -346,10 +406,3 @@ module _ {A : Type 0} (plan : Plan) (m : Meaning A) (S : State A) where
   -- no stage comes of a device without a step left
   pub no_stage : (d : ℕ) → can_start_at S rank.Sequence d ≡ false → offered plan m S group.Stages d ≡ None
   no_stage d h = no_stage_by d (steps_left S.pnp d) h
-
-  -- no cleanup callback starts on an object whose turn hasn't come, and no destroy callback on one that isn't cleaned
-  pub no_cleanup_start : (cpu o : ℕ) → may_clean S.tree o ≡ false → offered plan m S (group.Starts cpu rank.Cleanup) o ≡ None
-  no_cleanup_start cpu o h = not_ready cpu callback.EvtCleanupCallback o None (left_fails (clean_ready S o) (not (started S.tree o callback.EvtCleanupCallback)) (not_its_turn S o h))
-
-  pub no_destroy_start : (cpu o : ℕ) → is_cleaned (life_of S.tree o) ≡ false → offered plan m S (group.Starts cpu rank.Destroy) o ≡ None
-  no_destroy_start cpu o h = not_alive cpu callback.EvtDestroyCallback o None h

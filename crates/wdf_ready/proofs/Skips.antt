@@ -29,9 +29,9 @@ use Rattle.wdf_model.specs.rules.Groups.{completion_at, is_declared_somewhere, p
 use Rattle.wdf_request.specs.Closing.{closing_requests}
 use Rattle.wdf_sets.specs.Nexts.{IsNext, NoneFrom}
 use Rattle.wdf_sets.proofs.Nexts.{First, find_filter, first_in, none_in}
-use Rattle.wdf_ready.specs.Idle.{can_start_at, is_due_at, is_idle, next_start, search_len}
+use Rattle.wdf_ready.specs.Idle.{can_start_at, is_due_at, is_idle, search_len}
 use Rattle.wdf_ready.specs.Search.{Skips, offered, offered_from}
-use Rattle.wdf_ready.proofs.NotOffered.{cannot_start, idle_offers_none, no_cleanup_start, no_destroy_start, no_stage, not_due, not_its_turn}
+use Rattle.wdf_ready.proofs.NotOffered.{cannot_start, idle_offers_none, no_stage, not_due, not_its_turn}
 use Rattle.wdf_ready.proofs.Places.{all_passed, past}
 
 -- ---- what is skipped
@@ -182,31 +182,11 @@ module _ {A : Type 0} (plan : Plan) (m : Meaning A) (S : State A) where
   pub stays : (g : Group) (from : ℕ) → from < places_in plan S g → places_in plan S g ≤ 2 ^ 32 → Skips plan m S g from from
   stays g from below few = record { passed = refl; after = omega arith; within = below; small = omega arith }
 
-  -- a callback that is declared somewhere has a place for each id
-  declared_places : (b : Bool) (n from : ℕ) → from < places_if b n → places_if b n ≡ n
-  declared_places true n from h = refl
-  declared_places false n from h = absurd (omega arith)
-
   startable_by : (cpu : ℕ) (r : Rank) (from : ℕ) (o : Option ℕ) → from < places_in plan S (group.Starts cpu r) → places_in plan S (group.Starts cpu r) ≤ 2 ^ 32
       → MatchOption o (NoneFrom (can_start_at S r) from (places_in plan S (group.Starts cpu r))) (λ x. IsNext (can_start_at S r) from (places_in plan S (group.Starts cpu r)) x)
       → MatchOption o (offered_from plan m S (group.Starts cpu r) from ≡ []) (λ x. Skips plan m S (group.Starts cpu r) from x)
   startable_by cpu r from None below few h = next_ends plan m S (group.Starts cpu r) (can_start_at S r) (cannot_start plan m S cpu r) from below h
   startable_by cpu r from (Some x) below few h = next_skips plan m S (group.Starts cpu r) (can_start_at S r) (cannot_start plan m S cpu r) from x few h
-
-  pub start_answer_by : (cpu : ℕ) (r : Rank) (from : ℕ) (o : Option ℕ) → from < places_in plan S (group.Starts cpu r) → places_in plan S (group.Starts cpu r) ≤ 2 ^ 32 → next_start S r from ≡ o
-      → MatchOption o (offered_from plan m S (group.Starts cpu r) from ≡ []) (λ x. Skips plan m S (group.Starts cpu r) from x)
-  start_answer_by cpu rank.Cleanup from o below few e =
-      let all = ap (λ n. find (λ x. nat_le from x && may_clean S.tree x) (range_with_len 0 n)) (declared_places (is_declared_somewhere plan callback.EvtCleanupCallback) (next_id S.tree) from below) in
-      by_option (group.Starts cpu rank.Cleanup) from o (next_start S rank.Cleanup from) e
-      (λ h. ends_by plan m S (group.Starts cpu rank.Cleanup) (λ x. may_clean S.tree x) (no_cleanup_start plan m S cpu) from below (all ∙ h))
-      (λ x h. skips_by plan m S (group.Starts cpu rank.Cleanup) (λ y. may_clean S.tree y) (no_cleanup_start plan m S cpu) from x few (all ∙ h))
-  start_answer_by cpu rank.Destroy from o below few e =
-      let all = ap (λ n. find (λ x. nat_le from x && is_cleaned (life_of S.tree x)) (range_with_len 0 n)) (declared_places (is_declared_somewhere plan callback.EvtDestroyCallback) (next_id S.tree) from below) in
-      by_option (group.Starts cpu rank.Destroy) from o (next_start S rank.Destroy from) e
-      (λ h. ends_by plan m S (group.Starts cpu rank.Destroy) (λ x. is_cleaned (life_of S.tree x)) (no_destroy_start plan m S cpu) from below (all ∙ h))
-      (λ x h. skips_by plan m S (group.Starts cpu rank.Destroy) (λ y. is_cleaned (life_of S.tree y)) (no_destroy_start plan m S cpu) from x few (all ∙ h))
-  start_answer_by cpu r from o below few e =
-      subst (λ p. MatchOption p (offered_from plan m S (group.Starts cpu r) from ≡ []) (λ x. Skips plan m S (group.Starts cpu r) from x)) e (stays (group.Starts cpu r) from below few)
 
   pub startable_answer : (cpu : ℕ) (r : Rank) (from end : ℕ) (o : Option ℕ) → end ≡ places_in plan S (group.Starts cpu r) → from < end → end ≤ 2 ^ 32
       → MatchOption o (NoneFrom (can_start_at S r) from end) (λ x. IsNext (can_start_at S r) from end x) → MatchOption o (offered_from plan m S (group.Starts cpu r) from ≡ []) (λ x. Skips plan m S (group.Starts cpu r) from x)
@@ -235,18 +215,6 @@ module _ {A : Type 0} (plan : Plan) (m : Meaning A) (S : State A) where
 
   pub group_answer : (g h : Group) (from : ℕ) (o : Option ℕ) → h ≡ g → MatchOption o (offered_from plan m S h from ≡ []) (λ x. Skips plan m S h from x) → MatchOption o (offered_from plan m S g from ≡ []) (λ x. Skips plan m S g from x)
   group_answer g h from o is found = subst (λ x. MatchOption o (offered_from plan m S x from ≡ []) (λ y. Skips plan m S x from y)) is found
-
-  pub found_start : (cpu : ℕ) (r t : Rank) (from end : ℕ) (o : Option ℕ) → t ≡ r → end ≡ places_in plan S (group.Starts cpu r) → from < end → end ≤ 2 ^ 32 → next_start S t from ≡ o
-      → MatchOption o (offered_from plan m S (group.Starts cpu r) from ≡ []) (λ x. Skips plan m S (group.Starts cpu r) from x)
-  found_start cpu r t from end o is =
-      subst
-      (λ u. end ≡ places_in plan S (group.Starts cpu u) → from < end → end ≤ 2 ^ 32 → next_start S t from ≡ o → MatchOption o (offered_from plan m S (group.Starts cpu u) from ≡ []) (λ x. Skips plan m S (group.Starts cpu u) from x))
-      is (λ all below few e. start_answer_by cpu t from o (omega arith) (omega arith) e)
-
-  pub start_answer : (g : Group) (cpu : ℕ) (r : Rank) (from : ℕ) (o : Option ℕ) → group.Starts cpu r ≡ g → from < places_in plan S g → places_in plan S g ≤ 2 ^ 32 → next_start S r from ≡ o
-      → MatchOption o (offered_from plan m S g from ≡ []) (λ x. Skips plan m S g from x)
-  start_answer g cpu r from o is =
-      subst (λ h. from < places_in plan S h → places_in plan S h ≤ 2 ^ 32 → next_start S r from ≡ o → MatchOption o (offered_from plan m S h from ≡ []) (λ x. Skips plan m S h from x)) is (start_answer_by cpu r from o)
 
   due_answer_by : (cpu : ℕ) (r : Rank) (q from : ℕ) (o : Option ℕ) → from < places_in plan S (group.StartsFor cpu r q) → places_in plan S (group.StartsFor cpu r q) ≤ 2 ^ 32
       → MatchOption o (NoneFrom (is_due_at plan S r q) from (places_for plan S r q)) (λ x. IsNext (is_due_at plan S r q) from (places_for plan S r q) x)

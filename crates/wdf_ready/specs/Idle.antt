@@ -29,7 +29,7 @@ use Rattle.wdf_model.specs.parts.Interrupts.{is_enabled}
 use Rattle.wdf_model.specs.parts.Pnp.{next_step, steps_left}
 use Rattle.wdf_model.specs.parts.Queues.{is_empty_queue, is_free}
 use Rattle.wdf_model.specs.parts.Targets.{the_target}
-use Rattle.wdf_model.specs.parts.Tree.{life_of, may_clean, nearest_device}
+use Rattle.wdf_model.specs.parts.Tree.{counts, life_of, may_clean, nearest_device, node_of}
 use Rattle.wdf_model.specs.rules.Groups.{callback_for, places_in}
 use Rattle.wdf_model.specs.rules.Starts.{level_fits, rank_ready_for}
 
@@ -66,13 +66,16 @@ is_timer_due S (Some t) = timer_due S.timers t.timer.0 S.clock
 
 -- a callback of a rank can start at a place, as one part says: of a service routine the interrupt is enabled, a
 -- notification is due, for a handler a request waits and the queue is free, a step is left; of the queued timer at the
--- place the due tick is reached
+-- place the due tick is reached. A cleanup callback may start on what is Asked and has its turn, a destroy callback on what
+-- is cleaned, neither on an arrived request.
 abbrev pub can_start_at : {A : Type 0} → State A → Rank → ℕ → Bool
 can_start_at S rank.Isr i = is_enabled S.interrupts i
 can_start_at S rank.QueueState q = notify_due S.control q
 can_start_at S rank.Handler q = not (is_empty_queue S.queues q) && is_free S.queues q
 can_start_at S rank.Sequence d = nat_lt 0 (length (steps_left S.pnp d))
 can_start_at S rank.Timed k = is_timer_due S (slice_get S.timers.queued k)
+can_start_at S rank.Cleanup o = may_clean S.tree o && counts (node_of S.tree o)
+can_start_at S rank.Destroy o = is_cleaned (life_of S.tree o) && counts (node_of S.tree o)
 can_start_at S _ o = true
 
 -- a callback of a rank for requests can be due on an object
@@ -96,13 +99,6 @@ abbrev pub search_len : {A : Type 0} → Plan → State A → Group → ℕ
 search_len plan S g = if is_idle plan S g then 0 else places_in plan S g
 
 -- ---- places at which something may come
-
--- the first id from one on that a rank's callback may start on, as far as lives say. A cleanup callback may start on what
--- is Asked and has its turn, a destroy callback on what is cleaned, another on any.
-abbrev pub next_start : {A : Type 0} → State A → Rank → ℕ → Option ℕ
-next_start S rank.Cleanup from = find (λ o. nat_le from o && may_clean S.tree o) (ids_of S.tree.nodes)
-next_start S rank.Destroy from = find (λ o. nat_le from o && is_cleaned (life_of S.tree o)) (ids_of S.tree.nodes)
-next_start S _ from = Some from
 
 -- the completion routine of what is sent to a target is due
 abbrev pub is_sending_due : {A : Type 0} → Plan → State A → ℕ → Option Sending → Bool

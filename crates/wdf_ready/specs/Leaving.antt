@@ -23,8 +23,7 @@ use Rattle.wdf_model.specs.parts.Cpus.{is_empty_cpu, nobody_on}
 use Rattle.wdf_model.specs.parts.Deferred.WorkItems.{is_work_queued}
 use Rattle.wdf_model.specs.parts.Tree.{kind_of, life_of, may_clean, may_destroy}
 use Rattle.wdf_model.specs.parts.Requests.{place_of}
-use Rattle.wdf_model.specs.rules.Groups.{is_declared_somewhere}
-use Rattle.wdf_model.specs.rules.Starts.{clean_ready, destroy_ready}
+use Rattle.wdf_model.specs.rules.Starts.{callback_over, clean_ready, destroy_ready}
 use Rattle.wdf_model.specs.rules.Steps.{is_cpu}
 use Rattle.wdf_cpu.specs.Occupied.{is_awaited, is_occupied}
 use Rattle.wdf_lock.specs.Holds.{is_locked}
@@ -84,12 +83,12 @@ is_serial (class.Plain name k) = false
 abbrev pub is_unlocked : {A : Type 0} → Plan → State A → Bool
 is_unlocked plan S = length S.locks.held == 0 || not (list_any is_serial plan.classes)
 
--- those that may leave so are counted without a look at each: nothing declares their callback; of work items, one may start
--- on the processor, and no lock keeps one back
-abbrev pub is_numbered : {A : Type 0} → Plan → State A → Leaving → Bool
-is_numbered plan S leaving.Cleanup = not (is_declared_somewhere plan callback.EvtCleanupCallback)
-is_numbered plan S leaving.Destroy = not (is_declared_somewhere plan callback.EvtDestroyCallback)
-is_numbered plan S (leaving.Work cpu) = is_cpu plan (cpu_of cpu) && is_empty_cpu S.cpus cpu && is_unlocked plan S
+-- those that may leave so can be counted without a look at each: no callback of theirs keeps one back; of work items, one may
+-- start on the processor, and no lock keeps one back
+abbrev pub IsNumbered : {A : Type 0} → Plan → State A → Leaving → Type 0
+IsNumbered plan S leaving.Cleanup = (o : ℕ) → may_clean S.tree o ≡ true → callback_over plan S callback.EvtCleanupCallback o ≡ true
+IsNumbered plan S leaving.Destroy = (o : ℕ) → may_destroy S.tree o ≡ true → callback_over plan S callback.EvtDestroyCallback o ≡ true
+IsNumbered plan S (leaving.Work cpu) = (is_cpu plan (cpu_of cpu) && is_empty_cpu S.cpus cpu && is_unlocked plan S) ≡ true
 
 -- No request of an app is deleted that isn't completed, and nothing to which a request is sent; and queued work is live:
 -- each state of a run is so.

@@ -2,12 +2,14 @@
 ghost use Rattle.std.specs.Prelude.{◌≡◌, ◌<◌, ◌≤◌, ◌^◌, length, MatchOption};
 ghost use Rattle.wdf_base.specs.declared.rank.Rank.TheVariants as rank;
 ghost use Rattle.wdf_model.specs.parts.Targets as targets;
+ghost use Rattle.wdf_model.specs.parts.Tree as tree;
 ghost use Rattle.wdf_model.specs.rules.Groups as groups;
 ghost use Rattle.wdf_sets.specs.Nexts.{IsNext, NoneFrom};
 ghost use Rattle.wdf_ready.specs.Idle as idle;
 
 use crate::candidates::callback_for;
-use wdf_base::{Agent, Callback, ObjectId, Rank};
+use wdf_base::{Agent, Callback, Kind, ObjectId, Rank};
+use wdf_model::OBJECTS;
 use wdf_parts::Parts;
 use wdf_plan_index::IndexedPlan;
 use wdf_starts::rank_ready_for;
@@ -130,6 +132,13 @@ fn is_timer_due<A: Agent>(parts: &Parts<A>, place: u32) -> bool
         .timer_due(parts.timers().at(place).timer, parts.now())
 }
 
+/// Whether an object counts against the limit: an arrived request doesn't.
+fn counts<A: Agent>(parts: &Parts<A>, o: ObjectId) -> bool
+    ensures { result ≡ tree.counts (tree.node_of parts.now.tree o.0) }
+{
+    !parts.tree().life(o).is_gone() && parts.tree().kind(o) != Kind::Request
+}
+
 /// Whether a callback of a rank can start at a place, as one part says.
 fn can_start_at<A: Agent>(parts: &Parts<A>, rank: Rank, o: ObjectId) -> bool
     ensures { result ≡ idle.can_start_at parts.now rank o.0 }
@@ -140,6 +149,8 @@ fn can_start_at<A: Agent>(parts: &Parts<A>, rank: Rank, o: ObjectId) -> bool
         Rank::Handler => !parts.queues().is_empty(o) && parts.queues().is_free(o),
         Rank::Sequence => parts.pnp().steps_left(o) > 0,
         Rank::Timed => is_timer_due(parts, o.0),
+        Rank::Cleanup => parts.tree().may_clean(o) && counts(parts, o),
+        Rank::Destroy => parts.tree().life(o).is_cleaned() && counts(parts, o),
         _ => true,
     }
 }
@@ -162,6 +173,41 @@ fn next_timer<A: Agent>(parts: &Parts<A>, from: usize, end: usize) -> Option<usi
                 None
             }
         }
+        None => None,
+    }
+}
+
+/// The first place from one on below an end of an object on which a cleanup callback can start. It looks at no arrived
+/// request.
+fn next_turn<A: Agent>(parts: &Parts<A>, from: usize, end: usize) -> Option<usize>
+    requires small { end ≤ 2 ^ 32 }
+    ensures { MatchOption result (NoneFrom (idle.can_start_at parts.now rank.Cleanup) from end)
+        (λ place. IsNext (idle.can_start_at parts.now rank.Cleanup) from end place) }
+{
+    let _room = parts.tree().turn_len();
+    if from >= end {
+        return None;
+    }
+    let to = end.min(OBJECTS as usize) as u32;
+    match parts.tree().next_counted_turn(from as u32, to) {
+        Some(o) => Some(o as usize),
+        None => None,
+    }
+}
+
+/// The same of a destroy callback.
+fn next_cleaned<A: Agent>(parts: &Parts<A>, from: usize, end: usize) -> Option<usize>
+    requires small { end ≤ 2 ^ 32 }
+    ensures { MatchOption result (NoneFrom (idle.can_start_at parts.now rank.Destroy) from end)
+        (λ place. IsNext (idle.can_start_at parts.now rank.Destroy) from end place) }
+{
+    let _room = parts.tree().turn_len();
+    if from >= end {
+        return None;
+    }
+    let to = end.min(OBJECTS as usize) as u32;
+    match parts.tree().next_counted_cleaned(from as u32, to) {
+        Some(o) => Some(o as usize),
         None => None,
     }
 }
@@ -193,6 +239,8 @@ pub(crate) fn next_startable<A: Agent>(
 {
     match rank {
         Rank::Timed => next_timer(parts, from, end),
+        Rank::Cleanup => next_turn(parts, from, end),
+        Rank::Destroy => next_cleaned(parts, from, end),
         _ => next_by_one(parts, rank, from, end),
     }
 }

@@ -1,13 +1,13 @@
-//! Cleanups and destructions by their number, where nothing declares a callback for them, and starts of work items, where
+//! Cleanups and destructions by their number, where no callback of theirs is to come, and starts of work items, where
 //! no lock keeps one back: those that may come by one part alone are counted, and the few that something else keeps back
 //! are taken away.
-ghost use Rattle.std.specs.Prelude.{◌≡◌, ◌+◌, ◌<◌, ◌≤◌, ◌^◌, ◌&&◌, true, filter, length, option_map, slice_get, MatchOption, MatchResult};
+ghost use Rattle.std.specs.Prelude.{IsTrue, ◌≡◌, ◌+◌, ◌<◌, ◌≤◌, ◌^◌, ◌&&◌, true, filter, length, option_map, slice_get, MatchOption, MatchResult};
 ghost use Rattle.std.specs.List.{list_any, range_with_len};
 ghost use Rattle.wdf_model.specs.declared.room.TheConstants.{OBJECTS};
 ghost use Rattle.wdf_model.specs.parts.Cpus.{nobody_on};
 ghost use Rattle.wdf_model.specs.parts.Deferred.WorkItems.{is_work_queued};
 ghost use Rattle.wdf_sets.specs.Nexts.{IsNext, NoneFrom};
-ghost use Rattle.wdf_ready.specs.Leaving.{DeletedSettled, IsSettled, event_of, fits_part, fitting, group_of, is_busy, is_kept, is_numbered, is_serial, is_unlocked, leavers, may_leave};
+ghost use Rattle.wdf_ready.specs.Leaving.{DeletedSettled, IsNumbered, IsSettled, event_of, fits_part, fitting, group_of, is_busy, is_kept, is_serial, is_unlocked, leavers, may_leave};
 ghost use Rattle.wdf_ready.specs.Lesser.{lesser_of};
 ghost use Rattle.wdf_ready.specs.declared.leaving.Leaving.TheVariants as how;
 ghost use Rattle.wdf_ready.specs.Search as search;
@@ -101,14 +101,36 @@ fn is_serial(class: &ClassInfo) -> bool
     }
 }
 
+/// Whether no cleanup callback is to come of what has its turn: none is declared, or only arrived requests have it.
+fn is_cleanup_over<A: Agent>(plan: &IndexedPlan, parts: &Parts<A>) -> bool
+    ensures { IsTrue result → IsNumbered plan.now parts.now how.Cleanup }
+{
+    if !is_declared_somewhere(plan, Callback::EvtCleanupCallback) {
+        return true;
+    }
+    let end = parts.tree().len();
+    parts.tree().next_counted_turn(0, end).is_none()
+}
+
+/// Whether no destroy callback is to come of what is cleaned: none is declared, or only arrived requests are cleaned.
+fn is_destroy_over<A: Agent>(plan: &IndexedPlan, parts: &Parts<A>) -> bool
+    ensures { IsTrue result → IsNumbered plan.now parts.now how.Destroy }
+{
+    if !is_declared_somewhere(plan, Callback::EvtDestroyCallback) {
+        return true;
+    }
+    let end = parts.tree().len();
+    parts.tree().next_counted_cleaned(0, end).is_none()
+}
+
 impl Leaving {
     /// Whether those that may leave so are counted without a look at each.
     pub(crate) fn is_numbered<A: Agent>(self, plan: &IndexedPlan, parts: &Parts<A>) -> bool
-        ensures { result ≡ is_numbered plan.now parts.now self }
+        ensures { IsTrue result → IsNumbered plan.now parts.now self }
     {
         match self {
-            Leaving::Cleanup => !is_declared_somewhere(plan, Callback::EvtCleanupCallback),
-            Leaving::Destroy => !is_declared_somewhere(plan, Callback::EvtDestroyCallback),
+            Leaving::Cleanup => is_cleanup_over(plan, parts),
+            Leaving::Destroy => is_destroy_over(plan, parts),
             Leaving::Work { cpu } => {
                 is_cpu(plan, Cpu(cpu))
                     && parts.cpus().is_empty(Cpu(cpu))
@@ -284,7 +306,7 @@ pub(crate) fn numbered_len<A: Agent>(
     parts: &Parts<A>,
     leaving: Leaving,
 ) -> usize
-    requires numbered { is_numbered plan.now parts.now leaving ≡ true }
+    requires numbered { IsNumbered plan.now parts.now leaving }
     requires settled { IsSettled plan.now parts.now }
     ensures length { result ≡ length (search.offered_from plan.now A.meaning parts.now (group_of leaving) 0) }
     ensures small { result ≤ 2 ^ 32 }
@@ -301,7 +323,7 @@ pub(crate) fn numbered_at<A: Agent>(
     leaving: Leaving,
     k: usize,
 ) -> Result<Event, usize>
-    requires numbered { is_numbered plan.now parts.now leaving ≡ true }
+    requires numbered { IsNumbered plan.now parts.now leaving }
     requires settled { IsSettled plan.now parts.now }
     ensures { MatchResult result (λ event. slice_get (search.offered_from plan.now A.meaning parts.now (group_of leaving) 0) k ≡ Some event)
         (λ rest. length (search.offered_from plan.now A.meaning parts.now (group_of leaving) 0) + rest ≡ k) }

@@ -63,9 +63,9 @@ fn offered<A: Agent>(
     }
 }
 
-/// The first place from one on at which a callback of a rank can start on a processor. For cleanup callbacks a set says
-/// whose turn it is, for destroy callbacks a set says what is cleaned, for timers a tick for each 64 ids says where none is
-/// due; for other ranks each place is asked of one part.
+/// The first place from one on at which a callback of a rank can start on a processor. For cleanup callbacks sets say
+/// whose turn it is and what isn't an arrived request, for destroy callbacks what is cleaned and isn't one, for timers a
+/// tick for each 64 ids says where none is due; for other ranks each place is asked of one part.
 fn next_start<A: Agent>(
     plan: &IndexedPlan,
     parts: &Parts<A>,
@@ -82,11 +82,7 @@ fn next_start<A: Agent>(
 {
     let _ = plan;
     let _cpu = cpu;
-    match rank {
-        Rank::Cleanup => place_of(parts.tree().turn_from(ObjectId(from as u32))),
-        Rank::Destroy => place_of(parts.tree().cleaned_from(ObjectId(from as u32))),
-        _ => next_startable(parts, rank, from, end),
-    }
+    next_startable(parts, rank, from, end)
 }
 
 /// How many places of a group a search goes over: none of an idle one.
