@@ -26,7 +26,7 @@ GROUPS = [
     (
         "The promises",
         "What the program answers to words and input, and when each status comes. Read first `Serves`, `Promises` and `WroteSomeRun`.",
-        "wdf_serve/Serving wdf_serve/Promises wdf_serve/Runs wdf_serve wdf_top/Promises wdf_top/Answers wdf_top",
+        "wdf_serve/Serving wdf_arguments wdf_serve/Promises wdf_serve/Runs wdf_serve wdf_top/Promises wdf_top/Answers wdf_top",
     ),
     (
         "What a run is",

@@ -13,26 +13,16 @@ mod progress_line;
 mod suite;
 
 use progress_line::Line;
-use std::alloc::{AllocError, Global};
-use std::env::Args;
+use std::env;
 use std::io::IsTerminal;
 use std::process::ExitCode;
 use std::rt::Files;
 use std::thread::Threads;
-use std::{env, io};
 use suite::tell_suite;
+use wdf_arguments::words_of;
 use wdf_exit::Exit;
 use wdf_hunt::{Progress, hunt, suite_of};
 use wdf_io::{ReadSource, Sink, Source, WriteSink};
-
-/// The arguments after the first, which is the program's name. Where the system can't give them, there are none.
-fn words_of(alloc: Global, arguments: io::Result<Args>) -> Result<Vec<String>, AllocError> {
-    let mut words = Vec::new(alloc);
-    if let Ok(arguments) = arguments {
-        words.extend(arguments.skip(1))?;
-    }
-    Ok(words)
-}
 
 /// Takes the word `--no-progress` away where it is the last, and answers whether it was.
 fn takes_no_progress(words: &mut Vec<String>) -> bool {

@@ -3,29 +3,20 @@ use Rattle.std.proofs.Common.{◌≡◌, ◌≢◌, ℕ, suc, ◌==◌, ◌≤�
 use Rattle.std.specs.List.{list_all}
 use Rattle.std.proofs.lemmas.Bool.{and_left}
 use Rattle.wdf_base.specs.declared.plan.Plan.{Plan}
-use Rattle.wdf_base.specs.declared.object.Place.{Place}
-use Rattle.wdf_base.specs.declared.object.Place.TheVariants as place
-use Rattle.wdf_base.specs.declared.object.RequestInfo.{RequestInfo}
 use Rattle.wdf_base.specs.declared.value.Status.{Status}
-use Rattle.wdf_model.specs.declared.enums.Mode.TheVariants as mode
 use Rattle.wdf_model.specs.declared.entries.Sending.{Sending}
 use Rattle.wdf_model.specs.Tables.{flag}
-use Rattle.wdf_model.specs.Plans.{managed_queues, queues_of}
-use Rattle.wdf_model.specs.parts.Tree.{subtree}
-use Rattle.wdf_model.specs.parts.Control as control
-use Rattle.wdf_model.specs.parts.Queues.{waiting_in}
-use Rattle.wdf_model.specs.parts.Requests as requests
 use Rattle.wdf_model.specs.parts.Targets.{Target, Targets, done_sending, is_at_target, new_sending, no_target, sending_in_order, target_done, the_target, with_target, without_sending}
 use Rattle.wdf_model.specs.parts.Targets as targets
 use Rattle.wdf_model.specs.State.{State}
 use Rattle.wdf_model.specs.declared.deed.Deed.{Deed}
-use Rattle.wdf_model.specs.declared.deed.Deed.TheVariants.{Arrive, AskDeletion, CloseDevice, CloseReturning, ComeBack, CompleteRequest, FinishSending, Forward, GiveBack, PurgeQueue, Requeue, SendRequest, StartTarget, StopTarget}
-use Rattle.wdf_model.specs.rules.Deeds.{arrive_at, do_deed, do_deeds, give_up}
+use Rattle.wdf_model.specs.declared.deed.Deed.TheVariants.{ComeBack, FinishSending, SendRequest, StartTarget, StopTarget}
+use Rattle.wdf_model.specs.rules.Deeds.{do_deed, do_deeds}
 use Rattle.wdf_model.proofs.Tests.{both_left, both_right}
 use Rattle.wdf_model.proofs.Maps.{entry_map}
 use Rattle.wdf_model.proofs.Counts.{by_request, differs, equal, left_over, one_is_sent, one_or_two, others_left, others_stay_sent}
 use Rattle.law_machine_base.proofs.KeptMoves.{target_elsewhere, target_here}
-use Rattle.law_machine_lives.proofs.Stays.{asks_all, gives_up, queues_closed, returns_closed, withdraws}
+use Rattle.law_stuck_objects.proofs.Sendings.{targets_stay}
 
 -- ---- counts
 
@@ -88,39 +79,6 @@ back_others T r x u n =
     ∙ others_stay_sent (waits_at x) r (the_target T u).sent (λ s e. and_left (s.request.0 == x) (is_at_target s.outcome) (differs s.request.0 r x e (λ f. n (sym f))))
 
 -- ---- each deed
-
-abbrev of_targets : Deed → Bool
-of_targets (SendRequest r t forget) = true
-of_targets (FinishSending r s) = true
-of_targets (ComeBack r) = true
-of_targets (StopTarget t) = true
-of_targets (StartTarget t) = true
-of_targets _ = false
-
-abbrev targets_in : {A : Type 0} → State A → Targets
-targets_in S = S.targets
-
-came : {A : Type 0} (S : State A) (device : ℕ) (info : RequestInfo) (p : Place) → (arrive_at S device info p).targets ≡ S.targets
-came S device info (place.Queued q) = refl
-came S device info _ = refl
-
-targets_stay : {A : Type 0} (plan : Plan) (d : Deed) (S : State A) → of_targets d ≡ false → (do_deed plan d S).targets ≡ S.targets
-targets_stay plan (SendRequest r t forget) S off = absurd (let z : ⊥ = cc in z)
-targets_stay plan (FinishSending r s) S off = absurd (let z : ⊥ = cc in z)
-targets_stay plan (ComeBack r) S off = absurd (let z : ⊥ = cc in z)
-targets_stay plan (StopTarget t) S off = absurd (let z : ⊥ = cc in z)
-targets_stay plan (StartTarget t) S off = absurd (let z : ⊥ = cc in z)
-targets_stay plan (Arrive device info p) S off = came S device.0 info p
-targets_stay plan (AskDeletion o) S off = asks_all targets_in (λ S T D W U. refl) (subtree S.tree o.0) S
-targets_stay plan (Requeue r q) S off = gives_up targets_in (λ S Q R P. refl) S r.0
-targets_stay plan (Forward r q) S off = gives_up targets_in (λ S Q R P. refl) S r.0
-targets_stay plan (GiveBack r q) S off = gives_up targets_in (λ S Q R P. refl) S r.0
-targets_stay plan (CompleteRequest r) S off =
-    asks_all targets_in (λ S T D W U. refl) (subtree (give_up S r.0).tree r.0) (record (give_up S r.0) { requests = requests.complete S.requests r.0 }) ∙ gives_up targets_in (λ S Q R P. refl) S r.0
-targets_stay plan (PurgeQueue q) S off = withdraws targets_in (λ S Q R P. refl) plan q.0 (waiting_in S.queues q.0) (record S { control = control.set_mode S.control q.0 mode.Purged })
-targets_stay plan (CloseReturning d) S off = returns_closed targets_in (λ S Q R P. refl) (managed_queues plan d.0) S
-targets_stay plan (CloseDevice d) S off = queues_closed targets_in (λ S Q R P. refl) (queues_of plan d.0) (record S { control = control.shut S.control d.0 })
-targets_stay plan _ S off = refl
 
 -- a target keeps its sendings, or all targets do
 one_stays : (P : Target → Type 0) (T : Targets) (t : ℕ) (f : Target → Target) (u : ℕ) → ((x : Target) → P x → P (f x)) → P (the_target T u) → P (the_target (with_target T t f) u)

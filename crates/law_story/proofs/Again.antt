@@ -1,20 +1,16 @@
 -- The scene of the text of a story: lines without an `order` block, with new numbers, and with one of these picks after them.
-use Rattle.std.proofs.Common.{◌≡◌, ◌⊎◌, inl, inr, ℕ, zero, suc, ◌+◌, ◌<◌, ◌≤◌, ◌^◌, Bool, true, false, ◌&&◌, nat_lt, List, [], ◌∷◌, ◌++◌, map, flat_map, length, None, Some, IsTrue, refl, sym, ap, ◌∙◌, subst, append-nil, append_assoc, arith}
+use Rattle.std.proofs.Common.{◌≡◌, ◌⊎◌, inl, inr, ℕ, zero, suc, ◌+◌, ◌≤◌, ◌^◌, Bool, true, ◌&&◌, nat_lt, List, [], ◌∷◌, ◌++◌, map, flat_map, length, None, refl, sym, ap, ◌∙◌, subst, append-nil, arith}
 use Rattle.std.specs.List.{list_all}
-use Rattle.std.proofs.lemmas.Bool.{and_parts}
 use Rattle.std.proofs.lemmas.List.{map-append}
 use Rattle.std.proofs.lemmas.List.Concat.{flat_map-append}
 use Rattle.std.proofs.lemmas.List.Folds.{list_all-append}
 use Rattle.wdf_base.specs.declared.plan.Plan.{Plan}
-use Rattle.wdf_base.specs.Plan.{posts_of}
 use Rattle.wdf_model.specs.agents.Device.{device_actions}
 use Rattle.wdf_scene.specs.declared.line.NumberedLine.{NumberedLine}
-use Rattle.wdf_scene.specs.declared.line.SceneLine.{SceneLine}
-use Rattle.wdf_scene.specs.declared.line.SceneLine.TheVariants as line
 use Rattle.wdf_scene.specs.declared.line.SceneExpr.{SceneExpr}
 use Rattle.wdf_scene.specs.declared.scene.Scene.{Scene}
 use Rattle.wdf_scene.specs.Blocks.{front}
-use Rattle.wdf_scene.specs.Written.{IsScene, Plain, Picked, WrittenLine, exprs_at, is_written, line_at, lines_at, picks_in, scene_of, written_size, AreLines}
+use Rattle.wdf_scene.specs.Written.{IsScene, WrittenLine, exprs_at, is_written, lines_at, picks_in, scene_of, written_size, AreLines}
 use Rattle.wdf_tokens.specs.declared.token.Token.TheVariants as token
 use Rattle.wdf_tokens.specs.WellFormed.{is_token}
 use Rattle.wdf_parse.specs.Canonical.{canonical_text}

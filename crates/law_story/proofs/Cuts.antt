@@ -1,5 +1,5 @@
 -- A scene that can be written, without its `order` block.
-use Rattle.std.proofs.Common.{◌≡◌, ◌⊎◌, inl, inr, ℕ, suc, ◌+◌, Bool, true, false, ◌&&◌, not, List, [], ◌∷◌, ◌++◌, map, flat_map, None, Some, IsTrue, refl, sym, ap, ◌∙◌, subst, append-nil, append_assoc}
+use Rattle.std.proofs.Common.{◌≡◌, ◌⊎◌, inl, inr, ℕ, ◌+◌, Bool, true, ◌&&◌, not, List, [], ◌∷◌, ◌++◌, map, flat_map, None, refl, sym, ap, ◌∙◌, subst, append-nil, append_assoc}
 use Rattle.std.specs.Prelude.{◌==◌}
 use Rattle.std.specs.Option.{is_none}
 use Rattle.std.specs.List.{list_all}
@@ -7,23 +7,22 @@ use Rattle.std.proofs.lemmas.Bool.{and_parts}
 use Rattle.std.proofs.lemmas.List.{map-append}
 use Rattle.std.proofs.lemmas.List.Concat.{flat_map-append}
 use Rattle.std.proofs.lemmas.List.Folds.{list_all-append}
-use Rattle.wdf_base.specs.declared.plan.Plan.{Plan}
 use Rattle.wdf_scene.specs.declared.line.NumberedLine.{NumberedLine}
 use Rattle.wdf_scene.specs.declared.line.SceneLine.{SceneLine}
 use Rattle.wdf_scene.specs.declared.line.SceneLine.TheVariants as line
 use Rattle.wdf_scene.specs.declared.scene.Scene.{Scene}
 use Rattle.wdf_scene.specs.declared.block.Block.{Block}
 use Rattle.wdf_scene.specs.Blocks.{Position, front, innermost, is_outside, may_stand}
-use Rattle.wdf_scene.specs.Written.{IsScene, WrittenLine, is_written, line_at, lines_at, scene_of, written_size, AreLines}
+use Rattle.wdf_scene.specs.Written.{IsScene, WrittenLine, is_written, lines_at, scene_of, written_size, AreLines}
 use Rattle.wdf_refusals.specs.First.{first_refusal}
 use Rattle.wdf_refusals.specs.Numbered.{Every}
 use Rattle.wdf_refusals.proofs.Heads.{Ends, form_of}
 use Rattle.wdf_plan.specs.Parts.{line_picks}
 use Rattle.wdf_plan.specs.Plans.{plan_of}
-use Rattle.law_order.specs.Order.{IsWithoutOrder, PicksLine, order_block, picks_line}
+use Rattle.law_order.specs.Order.{PicksLine, order_block, picks_line}
 use Rattle.law_order.proofs.Order.{bare_accepted, plan_without}
 use Rattle.law_story.specs.Spelled.{AreRising, IsSpelled, is_spelled}
-use Rattle.law_story.proofs.Lines.{cut_scene, lines_both, order_lines, rise_without, size_of, whole_lines}
+use Rattle.law_story.proofs.Lines.{cut_scene, lines_both, rise_without, size_of, whole_lines}
 use Rattle.law_story.proofs.Positions.{Between, IsOpenAfter, IsOtherForm, between, open_cut, open_without, past_order}
 use Rattle.law_story.proofs.Split.{HasOrder, IsOtherLine, order_anywhere, order_written, split}
 use Rattle.law_story.proofs.Unpicked.{NoneOpen, unpicked}

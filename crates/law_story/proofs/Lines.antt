@@ -1,17 +1,15 @@
 -- Lines as they are written: one list after the other, the `order` block, and lines with new numbers.
-use Rattle.std.proofs.Common.{◌≡◌, ◌⊎◌, inl, inr, ℕ, suc, ◌+◌, ◌≤◌, Bool, true, false, ◌&&◌, List, [], ◌∷◌, ◌++◌, map, flat_map, refl, sym, ap, ◌∙◌, subst, append_assoc, arith}
+use Rattle.std.proofs.Common.{◌≡◌, ℕ, suc, ◌+◌, ◌≤◌, ◌&&◌, List, [], ◌∷◌, ◌++◌, map, flat_map, refl, sym, ap, ◌∙◌, append_assoc, arith}
 use Rattle.std.specs.List.{list_all}
-use Rattle.std.proofs.lemmas.List.Folds.{list_all-append}
 use Rattle.wdf_scene.specs.declared.line.NumberedLine.{NumberedLine}
 use Rattle.wdf_scene.specs.declared.line.SceneExpr.{SceneExpr}
 use Rattle.wdf_scene.specs.declared.line.SceneLine.TheVariants as line
-use Rattle.wdf_scene.specs.declared.scene.Scene.{Scene}
-use Rattle.wdf_scene.specs.Written.{Written, Plain, Picked, WrittenLine, exprs_at, is_written, line_at, lines_at, nodes_at, picks_in, scene_of, written_size}
+use Rattle.wdf_scene.specs.Written.{Plain, WrittenLine, exprs_at, is_written, line_at, lines_at, nodes_at, picks_in, scene_of, written_size}
 use Rattle.wdf_parse.specs.Canonical.{written_text}
 use Rattle.wdf_parse.specs.StandsFor.{without_number}
 use Rattle.wdf_refusals.proofs.Heads.{form_of}
 use Rattle.law_order.specs.Order.{IsWithoutOrder, PicksLine, order_block, picks_line}
-use Rattle.law_story.specs.Spelled.{AreRising, is_spelled}
+use Rattle.law_story.specs.Spelled.{AreRising}
 use Rattle.law_story.proofs.Split.{order_written, picks_written}
 
 -- how many nodes the expressions of some lines have

@@ -1,12 +1,11 @@
 -- The lines of a scene may come where they do also without its `order` block, and with another one after them.
-use Rattle.std.proofs.Common.{◌≡◌, ℕ, Bool, true, false, ◌&&◌, not, List, [], ◌∷◌, ◌++◌, map, Option, Some, None, option_map, IsTrue, IsSomeAnd, refl, sym, ap, ◌∙◌, subst}
-use Rattle.std.specs.Prelude.{◌==◌, if◌then◌else◌}
-use Rattle.std.specs.Option.{is_none, option_and_then}
-use Rattle.std.proofs.lemmas.Bool.{and_parts}
+use Rattle.std.proofs.Common.{◌≡◌, Bool, true, false, List, [], ◌∷◌, ◌++◌, Option, Some, None, option_map, IsTrue, IsSomeAnd, refl, sym, ap, ◌∙◌, subst}
+use Rattle.std.specs.Prelude.{if◌then◌else◌}
+use Rattle.std.specs.Option.{option_and_then}
 use Rattle.wdf_scene.specs.declared.block.Block.TheVariants as block
 use Rattle.wdf_scene.specs.declared.line.SceneLine.{SceneLine}
 use Rattle.wdf_scene.specs.declared.line.SceneLine.TheVariants as line
-use Rattle.wdf_scene.specs.Blocks.{Position, after_line, after_lines, innermost, is_outside, may_stand, moved}
+use Rattle.wdf_scene.specs.Blocks.{Position, after_line, after_lines, is_outside, may_stand, moved}
 use Rattle.wdf_refusals.specs.Numbered.{Every}
 use Rattle.wdf_refusals.proofs.Heads.{Ends, stood}
 use Rattle.law_order.proofs.Bodies.{begins_order}

@@ -1,8 +1,7 @@
 -- The text of the story of a seed tells a run of the kind of the seed's.
-use Rattle.std.proofs.Common.{◌≡◌, ℕ, ◌≤◌, nat_le, IsTrue, List, [], length, None, sym, ap, ◌∙◌, subst, arith}
+use Rattle.std.proofs.Common.{◌≡◌, ℕ, ◌≤◌, nat_le, IsTrue, List, [], length, None, ◌∙◌, arith}
 use Rattle.std.proofs.lemmas.Bool.{and_parts, leb-true}
 use Rattle.wdf_base.specs.declared.event.Event.{Event}
-use Rattle.wdf_base.specs.declared.plan.Plan.{Plan}
 use Rattle.wdf_base.specs.Resolved.{is_from}
 use Rattle.wdf_scene.specs.declared.scene.Scene.{Scene}
 use Rattle.wdf_scene.specs.Written.{IsScene}

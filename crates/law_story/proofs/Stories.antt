@@ -1,16 +1,14 @@
 -- The text of a story is a scenario with its picks, and `order` of it makes the story's run.
-use Rattle.std.proofs.Common.{◌≡◌, ℕ, zero, suc, ◌<◌, ◌≤◌, ◌^◌, All, Bool, true, List, [], ◌∷◌, length, nat_lt, None, refl, sym, ap, ◌∙◌, subst, arith}
-use Rattle.std.specs.List.{list_all}
+use Rattle.std.proofs.Common.{◌≡◌, ℕ, suc, ◌<◌, ◌≤◌, ◌^◌, All, true, List, [], ◌∷◌, length, nat_lt, None, refl, sym, ap, ◌∙◌, subst, arith}
 use Rattle.std.proofs.lemmas.Bool.{lt-ltb}
 use Rattle.wdf_base.specs.declared.event.Event.{Event}
-use Rattle.wdf_base.specs.declared.plan.Plan.{Plan}
 use Rattle.wdf_scene.specs.declared.line.NumberedLine.{NumberedLine}
 use Rattle.wdf_scene.specs.declared.scene.Scene.{Scene}
 use Rattle.wdf_scene.specs.Written.{scene_of}
 use Rattle.wdf_parse.specs.StandsFor.{StandsFor}
 use Rattle.wdf_refusals.specs.First.{first_refusal}
 use Rattle.wdf_plan.specs.Plans.{plan_of}
-use Rattle.wdf_model.specs.rules.Ready.{IsPickedRun, ending_of}
+use Rattle.wdf_model.specs.rules.Ready.{IsPickedRun}
 use Rattle.wdf_dev.specs.Agents.{agent_meaning}
 use Rattle.wdf_shrink.specs.Texts.{story_text}
 use Rattle.law_bare.specs.Agents.{SameActions}
@@ -19,7 +17,7 @@ use Rattle.law_bare.proofs.Agents.{usual_picked}
 use Rattle.law_canonical.proofs.Order.{IsRising, lines_rise}
 use Rattle.law_story.specs.Spelled.{AreRising, IsSpelled}
 use Rattle.law_story.specs.Stories.{IsOrdered, IsScenarioOf}
-use Rattle.law_story.proofs.Again.{IsLike, actions_both, again, again_picks, again_stands, are_short, like, same_actions}
+use Rattle.law_story.proofs.Again.{actions_both, again, again_picks, again_stands, are_short, like, same_actions}
 use Rattle.law_story.proofs.Cuts.{HasCut, has_cut}
 use Rattle.law_story.proofs.Texts.{stands_fit}
 use Rattle.law_story.proofs.Written.{story_is}

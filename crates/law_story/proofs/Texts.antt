@@ -1,8 +1,8 @@
 -- Lines that can be spelled are those of the text that they make.
-use Rattle.std.proofs.Common.{◌≡◌, ◌⊎◌, inl, inr, ℕ, suc, ◌+◌, Bool, true, false, ◌&&◌, List, [], ◌∷◌, ◌++◌, map, flat_map, Option, Some, None, option_map, Result, Ok, Err, refl, sym, ap, ◌∙◌, subst}
+use Rattle.std.proofs.Common.{◌≡◌, ◌⊎◌, inl, inr, ℕ, suc, ◌+◌, Bool, true, ◌&&◌, List, [], ◌∷◌, ◌++◌, map, flat_map, Option, Some, None, option_map, Result, Ok, Err, refl, sym, ap, ◌∙◌, subst}
 use Rattle.std.specs.List.{list_all}
 use Rattle.std.proofs.lemmas.Bool.{and_parts}
-use Rattle.wdf_scene.specs.Written.{Written, WrittenLine, is_written, scene_of, AreLines}
+use Rattle.wdf_scene.specs.Written.{Written, WrittenLine, is_written}
 use Rattle.wdf_tokens.specs.declared.token.Token.{Token}
 use Rattle.wdf_tokens.specs.declared.lexer.TokenFault.{TokenFault}
 use Rattle.wdf_tokens.specs.TokenTexts.{line_text}
@@ -14,7 +14,7 @@ use Rattle.wdf_scene_lines.specs.Reading.{read_written}
 use Rattle.wdf_scene_lines.specs.Spelling.{written_tokens}
 use Rattle.wdf_scene_lines.proofs.Completeness.{written_read}
 use Rattle.wdf_parse.specs.Canonical.{written_text, canonical_text}
-use Rattle.wdf_parse.specs.StandsFor.{StandsFor, TokenLine, spelled_line, token_lines, version_lines, version_tokens, with_token_line}
+use Rattle.wdf_parse.specs.StandsFor.{TokenLine, spelled_line, token_lines, version_lines, version_tokens, with_token_line}
 use Rattle.law_story.specs.Spelled.{is_spelled}
 use Rattle.law_story.proofs.Lines.{renumbered}
 

@@ -1,11 +1,11 @@
 -- Only lines of an `order` block pick.
-use Rattle.std.proofs.Common.{◌≡◌, ℕ, ◌+◌, Bool, true, false, ◌&&◌, not, List, [], ◌∷◌, ◌++◌, map, drop, flat_map, Option, Some, None, refl, sym, ap, ◌∙◌, subst}
+use Rattle.std.proofs.Common.{◌≡◌, ℕ, ◌+◌, Bool, true, false, List, [], ◌∷◌, ◌++◌, map, drop, flat_map, refl, ap, ◌∙◌}
 use Rattle.wdf_scene.specs.declared.block.Block.{Block}
 use Rattle.wdf_scene.specs.declared.block.Block.TheVariants as block
 use Rattle.wdf_scene.specs.declared.line.SceneLine.{SceneLine}
 use Rattle.wdf_scene.specs.declared.line.SceneLine.TheVariants as line
-use Rattle.wdf_scene.specs.Blocks.{Position, blocks_after, in_order, innermost, may_stand, moved, opened, with_opened}
-use Rattle.wdf_scene.specs.Written.{Written, Plain, Picked, Single, Calling, WrittenLine, line_at, lines_at, picks_in, written_size}
+use Rattle.wdf_scene.specs.Blocks.{Position, blocks_after, in_order, innermost, may_stand, moved}
+use Rattle.wdf_scene.specs.Written.{Written, Picked, WrittenLine, line_at, lines_at, picks_in, written_size}
 use Rattle.wdf_refusals.specs.Numbered.{Every}
 use Rattle.wdf_refusals.proofs.Heads.{Ends, form_of, stood}
 use Rattle.wdf_plan.specs.Parts.{line_picks}

@@ -1,5 +1,5 @@
 -- The text of a story is the canonical text of its lines.
-use Rattle.std.proofs.Common.{◌≡◌, ◌⊎◌, inl, inr, ℕ, suc, ◌+◌, ◌==◌, Bool, true, false, cond, ◌||◌, List, [], ◌∷◌, ◌++◌, map, flat_map, length, codes, decimal, refl, sym, ap, ◌∙◌, subst, append-nil, append_assoc, arith}
+use Rattle.std.proofs.Common.{◌≡◌, ◌⊎◌, inl, inr, ℕ, ◌+◌, ◌==◌, true, false, ◌||◌, List, [], ◌∷◌, ◌++◌, map, flat_map, length, codes, decimal, refl, sym, ap, ◌∙◌, subst, append-nil, append_assoc, arith}
 use Rattle.std.specs.Prelude.{if◌then◌else◌}
 use Rattle.std.specs.List.{list_all}
 use Rattle.std.proofs.lemmas.Bool.{ne_eqb}
@@ -9,21 +9,19 @@ use Rattle.wdf_scene.specs.declared.line.SceneExpr.{SceneExpr}
 use Rattle.wdf_scene.specs.declared.line.SceneLine.{SceneLine}
 use Rattle.wdf_scene.specs.declared.line.SceneLine.TheVariants as line
 use Rattle.wdf_scene.specs.declared.scene.Scene.{Scene}
-use Rattle.wdf_scene.specs.Written.{WrittenLine, exprs_at, is_written, line_at, lines_at, picks_in, scene_of, written_size}
-use Rattle.wdf_tokens.specs.declared.keyword.Keyword.TheVariants as keyword
+use Rattle.wdf_scene.specs.Written.{WrittenLine, exprs_at, is_written, line_at, lines_at, picks_in, written_size}
 use Rattle.wdf_tokens.specs.declared.token.Token.TheVariants as token
-use Rattle.wdf_tokens.specs.TokenTexts.{line_text, rest_text}
-use Rattle.wdf_tokens.specs.WordTokens.{word}
+use Rattle.wdf_tokens.specs.TokenTexts.{rest_text}
 use Rattle.wdf_parse.specs.Canonical.{canonical_text, written_text}
 use Rattle.wdf_parse.specs.Printing.{scene_line_text, version_text}
 use Rattle.wdf_parse.proofs.PrintedLines.{lines_spelled}
 use Rattle.wdf_refusals.specs.Numbered.{Every}
-use Rattle.wdf_shrink.specs.Texts.{block_text, inside_after, is_order, order_text, outside_text, outside_texts, picks_text, story_text}
+use Rattle.wdf_shrink.specs.Texts.{block_text, is_order, order_text, outside_texts, picks_text, story_text}
 use Rattle.law_order.specs.Order.{PicksLine, order_block, picks_line}
 use Rattle.law_order.proofs.Bodies.{begins_order}
 use Rattle.law_story.proofs.Again.{end_block, story_lines}
 use Rattle.law_story.proofs.Cuts.{HasCut, IsBare, IsParted}
-use Rattle.law_story.proofs.Lines.{lines_both, renumbered, same_exprs, size_of, text_renumbered, whole_lines}
+use Rattle.law_story.proofs.Lines.{lines_both, same_exprs, size_of, text_renumbered, whole_lines}
 use Rattle.law_story.proofs.Split.{IsOtherLine, order_anywhere, order_written}
 
 -- ---- the lines outside the `order` block

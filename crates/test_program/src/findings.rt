@@ -1,36 +1,9 @@
 //! What `lint` finds in scripts.
 use crate::call::{Row, STEADY, try_rows};
 use crate::refusals::USAGE;
+use crate::replays::CANCELLED_READ;
 use crate::requests::COMPLETED_TWICE;
 use std::test::Fail;
-
-const TESTED: &[u8] = b"\
-cpus 1\n\
-limit 100\n\
-objects 16\n\
-device D working\n\
-queue Q sequential\n\
-default\n\
-on EvtIoRead\n\
-call m = WdfRequestMarkCancelableEx request\n\
-call u = WdfRequestUnmarkCancelable request\n\
-if ( u == SUCCESS )\n\
-call WdfRequestComplete request SUCCESS\n\
-end\n\
-end\n\
-on EvtRequestCancel\n\
-call WdfRequestComplete request CANCELLED\n\
-end\n\
-end\n\
-end\n\
-app A\n\
-at 0 read D 16\n\
-at 0 cancel 1\n\
-end\n\
-order\n\
-picks 0 0 0 1\n\
-end\n\
-";
 
 const UNTESTED: &[u8] = b"\
 cpus 1\n\
@@ -62,7 +35,7 @@ static ROWS: [Row; 6] = [
     Row {
         name: "a driver that looks at what its unmark answers",
         words: "lint",
-        input: &[TESTED],
+        input: &[CANCELLED_READ],
         status: 0,
         text: b"clean\n",
     },
@@ -97,7 +70,7 @@ static ROWS: [Row; 6] = [
     Row {
         name: "a number after the word",
         words: "lint 1",
-        input: &[TESTED],
+        input: &[CANCELLED_READ],
         status: 2,
         text: USAGE,
     },

@@ -9,7 +9,7 @@ use test_worked_texts::Worked;
 use wdf_base::Memory;
 
 /// A read is cancelled before its callback unmarks it.
-const CANCELLED_READ: &[u8] = b"\
+pub const CANCELLED_READ: &[u8] = b"\
 cpus 1\n\
 limit 100\n\
 objects 16\n\

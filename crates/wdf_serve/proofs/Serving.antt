@@ -4,7 +4,8 @@ use Rattle.wdf_output.specs.Refusals.{no_memory_line}
 use Rattle.wdf_output.specs.Said.{Sinking, Says}
 use Rattle.wdf_serve.specs.Promises.{Promises}
 use Rattle.wdf_serve.specs.Runs.{WroteSomeRun, is_end_status}
-use Rattle.wdf_serve.specs.Serving.{Arguments, LacksArguments, Serves, words_after_name}
+use Rattle.wdf_arguments.specs.Arguments.{Arguments, LacksArguments, words_after_name}
+use Rattle.wdf_serve.specs.Serving.{Serves}
 use Rattle.wdf_serve.specs.Words.{service_for}
 use Rattle.wdf_top.specs.Causes.{is_status}
 use Rattle.wdf_top.specs.Agents.{RunAgents}

@@ -1,13 +1,13 @@
 //! The program over any reader and any writer.
-ghost use Rattle.std.specs.Prelude.{◌≡◌, IfOk, IsErr, IsOk, IsTrue, [], map, drop, string_bytes};
-ghost use Rattle.std.specs.Vec.Iter.{into_iter_items};
+ghost use Rattle.std.specs.Prelude.{◌≡◌, IsTrue, []};
+ghost use Rattle.wdf_arguments.specs.Arguments.{LacksArguments, LacksMemory, words_after_name};
 ghost use Rattle.wdf_io.specs.Outside.{EndsRefused};
 ghost use Rattle.wdf_io.specs.Streams.{RefusedBy};
 ghost use Rattle.wdf_output.specs.Refusals.{no_memory_line};
 ghost use Rattle.wdf_output.specs.Said.{Says, sinking};
 ghost use Rattle.wdf_serve.specs.Runs.{WroteSomeRun, is_end_status};
 ghost use Rattle.wdf_serve.specs.Promises.{Promises};
-ghost use Rattle.wdf_serve.specs.Serving.{Serves, LacksArguments, LacksMemory, words_after_name};
+ghost use Rattle.wdf_serve.specs.Serving.{Serves};
 ghost use Rattle.wdf_serve.specs.Words.{service_for};
 ghost use Rattle.wdf_top.specs.Agents.{RunAgents};
 ghost use Rattle.wdf_top.specs.Answers.{Picking, Run};
@@ -15,12 +15,13 @@ ghost use Rattle.wdf_top.specs.Causes.{is_status};
 ghost use Rattle.wdf_top.specs.Top.{IsUnread, Reads, sourcing};
 
 use crate::call::top;
-use std::alloc::{AllocError, Global};
+use std::alloc::Global;
 use std::env::Args;
 use std::io;
-use std::io::{ErrorKind, Read, Write};
+use std::io::{Read, Write};
 use std::sync::Wait;
 use std::thread::Threads;
+use wdf_arguments::words_of;
 use wdf_io::{ReadSource, WriteSink};
 use wdf_output::{Refusal, tell};
 use wdf_turn::Gate;
@@ -69,31 +70,4 @@ pub fn serve<T: Threads + Wait + Sync, R: Read, W: Write + Send, G: Gate + Sync>
         Ok(words) => top(rt, alloc, &words, source, sink, gate),
         Err(_) => tell(sink, Refusal::NoMemory),
     }
-}
-
-/// The words after the program's name. Where the system can't give the arguments, there are none.
-fn words_of(alloc: Global, arguments: io::Result<Args>) -> Result<Vec<String>, AllocError>
-    ensures words { IfOk result (λ words. map string_bytes words.items ≡ words_after_name arguments) }
-    ensures lacking { LacksMemory arguments → IsErr result }
-    ensures only_memory { LacksArguments arguments → IsOk result }
-{
-    match arguments {
-        Ok(arguments) => after_name(alloc, arguments),
-        Err(error) => {
-            if matches!(error.kind(), ErrorKind::OutOfMemory) {
-                Err(AllocError)
-            } else {
-                Ok(Vec::new(alloc))
-            }
-        }
-    }
-}
-
-/// The arguments after the first, which is the program's name. Room for all is asked for once, so a refusal is seen.
-fn after_name(alloc: Global, arguments: Args) -> Result<Vec<String>, AllocError>
-    ensures { IfOk result (λ words. words.items ≡ drop 1 (into_iter_items arguments)) }
-{
-    let mut words = Vec::with_capacity(alloc, arguments.len())?;
-    words.extend(arguments.skip(1))?;
-    Ok(words)
 }

@@ -2,7 +2,7 @@
 use Rattle.std.proofs.Common.{refl, ap, ◌∙◌}
 use Rattle.std.proofs.lemmas.Iterator.Adapters.{items_from_extend, YieldsList-from_skip, YieldsList-from_vec}
 use Rattle.std.specs.Vec.Iter.{into_iter_items}
-use Rattle.wdf_serve.proofs.program.after_name.Goals as goal
+use Rattle.wdf_arguments.proofs.after_name.Goals as goal
 
 pub returns : goal.returns
 returns c =
