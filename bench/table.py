@@ -26,6 +26,8 @@ import machine
 from measure import PROGRAM, run
 
 RUNS = 2
+# In how many bytes at its end a trace has the line of its ending.
+LAST = 1 << 17
 # How many bytes an input has at most.
 LONGEST = 1 << 20
 HEAD = "device D working\n"
@@ -178,7 +180,8 @@ def scenario(program, make, size):
 
 def events_of(trace):
     """How many events the ending of a trace tells."""
-    for line in reversed(trace.splitlines()):
+    # (the whole in lines would make this process large, and a new process is counted as large as the one that made it)
+    for line in reversed(trace[-LAST:].splitlines()):
         words = line.split(b" ")
         if words[0] in (b"finished", b"limit", b"stuck"):
             return int(words[1])
