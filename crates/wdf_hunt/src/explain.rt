@@ -1,12 +1,10 @@
 //! The story of a trace's ending.
-ghost use Rattle.std.specs.Prelude.{◌≡◌, ◌≤◌, [], IfErr, IfOk, length};
+ghost use Rattle.std.specs.Prelude.{◌≡◌, ◌≤◌, [], length};
 ghost use Rattle.wdf_base.specs.Resolved.{IsResolved};
 ghost use Rattle.wdf_dev.specs.Agents.{agent_meaning};
 ghost use Rattle.wdf_explain_run.specs.Endings.{story};
 ghost use Rattle.wdf_io.specs.Outside.{EndsRefused};
 ghost use Rattle.wdf_output.specs.Said.{sinking};
-ghost use Rattle.wdf_top.specs.Answers.{HasPlan};
-ghost use Rattle.wdf_top.specs.Causes.{IsTextCause};
 ghost use Rattle.wdf_top.specs.Top.{IsRead, Sourcing, TellsBy, sourcing};
 ghost use Rattle.wdf_hunt.specs.Explained.{TellsExplained, TellsStory, explaining};
 
@@ -19,12 +17,11 @@ use wdf_exit::Exit;
 use wdf_explain_run::story_of_run;
 use wdf_io::{Sink, Source};
 use wdf_output::{Refusal, say, tell};
-use wdf_parse::{TEXT_LIMIT, parse};
-use wdf_plan::resolve;
+use wdf_parse::TEXT_LIMIT;
 use wdf_replay::{Verdict, refused_line, replay};
 use wdf_run_text::from_place;
 use wdf_split::split;
-use wdf_top::opening;
+use wdf_top::{opening, plan_of_text};
 
 /// Writes the story of the ending of the run on a core, or the line `out of memory`.
 fn tell_ending<K: Sink>(alloc: Global, core: &Core<AnyAgent>, sink: &mut K) -> u8
@@ -70,17 +67,6 @@ fn tell_plan<K: Sink>(alloc: Global, plan: Plan, trace: &[u8], sink: &mut K) -> 
         Ok(mut core) => tell_trace(alloc, &mut core, trace, sink),
         Err(memory) => tell(sink, Refusal::from(memory)),
     }
-}
-
-/// The plan of a text's scene.
-fn plan_of_text(alloc: Global, text: &[u8]) -> Result<Plan, Refusal>
-    requires { length text.now ≤ TEXT_LIMIT }
-    ensures plan { IfOk result (HasPlan text.now) }
-    ensures cause { IfErr result (IsTextCause text.now) }
-{
-    let scene = parse(alloc, text)?;
-    let plan = resolve(alloc, &scene)?;
-    Ok(plan)
 }
 
 /// Writes the story of an input's trace, or says why its scenario has no plan.

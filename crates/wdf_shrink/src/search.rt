@@ -66,7 +66,10 @@ pub(crate) fn cut_tail(
 
 /// Whether a pick of a block isn't 0.
 fn is_set(picks: &[u64], from: usize, size: usize) -> bool {
-    picks.iter().skip(from).take(size).any(|pick| *pick != 0)
+    match picks.get(from..) {
+        Some(rest) => rest.iter().take(size).any(|pick| *pick != 0),
+        None => false,
+    }
 }
 
 /// Picks with a block of them set to 0.

@@ -20,7 +20,8 @@ use Rattle.wdf_input.specs.Input.{TakesAll, TakesCount}
 use Rattle.wdf_output.specs.Refusals.{no_memory_line}
 use Rattle.wdf_output.specs.Said.{Sinking, IsCutShort}
 use Rattle.wdf_top.specs.Top.{Sourcing, Service, IsAnswered, IsReadDue, Tells, TellsBy, Usage, Reads, Scenario, Summary, reads_input, scenario_by}
-use Rattle.wdf_top.proofs.Ended.{has_ended, made_ends}
+use Rattle.wdf_run.proofs.Endings.{has_ended}
+use Rattle.wdf_top.proofs.Ended.{made_ends}
 use Rattle.wdf_top.proofs.Given.{answered}
 use Rattle.wdf_top.proofs.Statuses.{Fits, AreAnswers, is_answer_status, is_own_status, read_status, reads_answers, reads_own, reads_never, reads_no_usage, differs, third, usage_answers, scenario_never, summary_never}
 

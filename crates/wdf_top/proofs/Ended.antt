@@ -1,32 +1,16 @@
--- A run after which nothing may follow has ended; and what holds of a trace.
-use Rattle.std.proofs.Common.{ℕ, ◌≡◌, if◌then◌else◌, nat_le, Bool, true, false, List, [], Option, Some, None, refl}
+-- A run that was made is one of the plan and has ended; and what holds of a trace.
+use Rattle.std.proofs.Common.{ℕ, ◌≡◌, List, [], refl}
 use Rattle.wdf_base.specs.Meaning.{Meaning}
 use Rattle.wdf_base.specs.declared.plan.Plan.{Plan}
 use Rattle.wdf_base.specs.declared.event.Event.{Event}
-use Rattle.wdf_base.specs.declared.event.Fault.{Fault}
 use Rattle.wdf_base.specs.declared.event.Ending.TheVariants as ending
-use Rattle.wdf_model.specs.State.{State}
-use Rattle.wdf_model.specs.rules.Ready.{ending_of, final_ending, is_open, last_fault, ready, state_after, IsPickedRun, IsRunOf}
+use Rattle.wdf_model.specs.rules.Ready.{ending_of, ready, IsPickedRun, IsRunOf}
 use Rattle.wdf_model.proofs.Runs.{picked_is_run, picked_once, run_opens}
+use Rattle.wdf_run.proofs.Endings.{has_ended}
 use Rattle.wdf_output.specs.Endings.{status_of}
 use Rattle.wdf_run_text.specs.Texts.{text_of}
 use Rattle.wdf_top.specs.declared.run.Picks.{Picks}
 use Rattle.wdf_top.specs.Answers.{By, Freely, IsRunBy, IsTraceOf, Picking, picks_of}
-
--- an ending by two tests is never that the run goes on
-no_running : (limited open_still : Bool) → (if limited then ending.Limit else (if open_still then ending.Stuck else ending.Finished)) ≡ ending.Running → ⊥
-no_running true b h = let z : ⊥ = cc in z
-no_running false true h = let z : ⊥ = cc in z
-no_running false false h = let z : ⊥ = cc in z
-
--- nor is a fault
-over : {A : Type 0} (plan : Plan) (m : Meaning A) (S : State A) (x : Option Fault) → final_ending plan m S x ≡ ending.Running → ⊥
-over plan m S (Some x) h = let z : ⊥ = cc in z
-over plan m S None h = no_running (nat_le plan.limit S.number) (is_open plan m S) h
-
-pub has_ended : {A : Type 0} (plan : Plan) (m : Meaning A) (run : List Event) → ready plan m run ≡ [] → ending_of plan m run ≡ ending.Running → ⊥
-unfolding ending_of
-has_ended plan m run nothing running = over plan m (state_after plan m run) (last_fault run) (rw nothing at running)
 
 -- a run is one of the plan, however it is picked
 pub made_runs : {A : Type 0} (plan : Plan) (m : Meaning A) (by : Picking) (run : List Event) → IsRunBy plan m by run → IsRunOf plan m run

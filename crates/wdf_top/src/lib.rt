@@ -25,6 +25,6 @@ mod words;
 pub use agents::RunAgent;
 pub use laws::{one_trace_a_plan, plans_of_texts_are_resolved, traces_are_of_runs};
 pub use run::opening;
-pub use scenario::{read_plan, read_plan_and_copy};
+pub use scenario::{plan_of_text, read_plan, read_plan_and_copy};
 pub use top::top_plain;
 pub use words::number_word;

@@ -3,7 +3,7 @@ use Rattle.std.proofs.Common.{inr, refl}
 use Rattle.wdf_output.specs.Refusals.{no_memory_line}
 use Rattle.wdf_top.specs.Answers.{By}
 use Rattle.wdf_top.proofs.Due.{trace_told}
-use Rattle.wdf_top.proofs.Ended.{has_ended}
+use Rattle.wdf_run.proofs.Endings.{has_ended}
 use Rattle.wdf_top.proofs.run.tell_run.Goals as goal
 
 pub write_run-requires : goal.write_run-requires

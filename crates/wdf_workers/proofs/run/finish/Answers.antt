@@ -1,6 +1,6 @@
 -- The run goes on from the state's journal, and has ended.
 use Rattle.std.proofs.Common.{sym}
-use Rattle.wdf_workers.proofs.Endings.{has_ended}
+use Rattle.wdf_run.proofs.Endings.{has_ended}
 use Rattle.wdf_workers.proofs.run.finish.Goals as goal
 
 pub returns-clause-journal : goal.returns-clause-journal
