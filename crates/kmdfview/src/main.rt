@@ -9,7 +9,8 @@ use wdf_exit::Exit;
 use wdf_io::{ReadSource, WriteSink};
 use wdf_view::view;
 
-/// Serves the program's arguments over its input and its output, and ends with the status that is answered.
+/// Serves the program's arguments over its input and its output, and ends with the status that is answered: 15, and no line,
+/// where there is no memory for the arguments.
 fn main(rt: HostRuntime) -> ExitCode {
     let mut source = ReadSource::new(rt.stdin());
     let mut sink = WriteSink::new(rt.stdout());

@@ -9,8 +9,8 @@
 //!   them, of the plan without them. No rule of the machine reads a plan's picks.
 //! - **Why is the order of actions a premise?** A device has its `when` and its `at` lines in the order of their numbers, and
 //!   they come from two lists of the plan. Of the plans of two texts with the same lines it is shown in `law_canonical`.
-//! - **Why does it stand on `wdf_refusals`?** Its lemmas on two scenes of which the same is read serve `law_canonical`, `law_moved` and
-//!   `law_order`: without numbers, with other ticks, with the lines at other places a scene is refused for the same.
+//! - **Why does it stand on `wdf_refusals`?** Its lemmas on two scenes that are read alike serve `law_canonical`, `law_moved` and
+//!   `law_order`: a scene without numbers, with other ticks, or with lines at other places is refused for the same reason.
 #![tactic(auto)]
 
 ghost use Rattle.std.specs.Prelude.{◌≡◌, ℕ, List};

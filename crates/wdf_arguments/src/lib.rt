@@ -2,8 +2,8 @@
 //!
 //! # Choices
 //!
-//! - **What is told where the system can't give the arguments?** A lack of memory is one: then there is no memory for the words. After
-//!   any other failure there are no words.
+//! - **What is answered where the system can't give the arguments?** Where it has no memory for them, an `AllocError`. After any other
+//!   failure no words.
 #![tactic(auto)]
 
 ghost use Rattle.std.specs.Prelude.{◌≡◌, IfOk, IsErr, IsOk, map, drop, string_bytes};
@@ -15,7 +15,7 @@ use std::env::Args;
 use std::io;
 use std::io::ErrorKind;
 
-/// The words after the program's name. Where the system can't give the arguments, there are none.
+/// The words after the program's name. Where the system can't give them for another reason than memory, there are none.
 pub fn words_of(alloc: Global, arguments: io::Result<Args>) -> Result<Vec<String>, AllocError>
     ensures words { IfOk result (λ words. map string_bytes words.items ≡ words_after_name arguments) }
     ensures lacking { LacksMemory arguments → IsErr result }
@@ -33,7 +33,7 @@ pub fn words_of(alloc: Global, arguments: io::Result<Args>) -> Result<Vec<String
     }
 }
 
-/// The arguments after the first, which is the program's name. Room for all is asked for once, so a refusal is seen.
+/// The arguments after the first, which is the program's name. Room for all is asked for once, before any is taken.
 fn after_name(alloc: Global, arguments: Args) -> Result<Vec<String>, AllocError>
     ensures { IfOk result (λ words. words.items ≡ drop 1 (into_iter_items arguments)) }
 {

@@ -2,8 +2,8 @@
 //!
 //! # Choices
 //!
-//! - **Where is a line?** Each line is placed once (`Lines`), and kept with its block, its device and what comes before it,
-//!   some 230 bytes. The lists of a plan are then gathered by walks that only read.
+//! - **Where is a line?** Each line is placed once (`Lines`), and kept with its block, its device and how many of
+//!   each thing come before it, some 230 bytes. The lists of a plan are then gathered by walks that only read.
 #![tactic(auto)]
 
 pub mod attribute;

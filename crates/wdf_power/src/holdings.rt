@@ -41,7 +41,7 @@ pub(crate) struct Holdings {
     unsettled: Counts,
     /// For how many requests a resume is due, by device.
     due: Counts,
-    /// For how many a resume is due, on whatever device: counted at the id 0.
+    /// For how many requests a resume is due in all, counted at the id 0.
     resumes: Counts,
 }
 

@@ -132,7 +132,7 @@ fn is_timer_due<A: Agent>(parts: &Parts<A>, place: u32) -> bool
         .timer_due(parts.timers().at(place).timer, parts.now())
 }
 
-/// Whether an object counts against the limit: an arrived request doesn't.
+/// Whether an object counts against the limit: one that is gone doesn't, nor an arrived request.
 fn counts<A: Agent>(parts: &Parts<A>, o: ObjectId) -> bool
     ensures { result ≡ tree.counts (tree.node_of parts.now.tree o.0) }
 {
@@ -177,8 +177,8 @@ fn next_timer<A: Agent>(parts: &Parts<A>, from: usize, end: usize) -> Option<usi
     }
 }
 
-/// The first place from one on below an end of an object on which a cleanup callback can start. It looks at no arrived
-/// request.
+/// The first place from one on below an end of an object on which a cleanup callback can start. Arrived requests between
+/// two others are passed over without a look at each.
 fn next_turn<A: Agent>(parts: &Parts<A>, from: usize, end: usize) -> Option<usize>
     requires small { end ≤ 2 ^ 32 }
     ensures { MatchOption result (NoneFrom (idle.can_start_at parts.now rank.Cleanup) from end)

@@ -101,7 +101,7 @@ fn is_serial(class: &ClassInfo) -> bool
     }
 }
 
-/// Whether no cleanup callback is to come of what has its turn: none is declared, or only arrived requests have it.
+/// True only where no cleanup callback is to come of what has its turn: none is declared, or only arrived requests have it.
 fn is_cleanup_over<A: Agent>(plan: &IndexedPlan, parts: &Parts<A>) -> bool
     ensures { IsTrue result → IsNumbered plan.now parts.now how.Cleanup }
 {
@@ -112,7 +112,7 @@ fn is_cleanup_over<A: Agent>(plan: &IndexedPlan, parts: &Parts<A>) -> bool
     parts.tree().next_counted_turn(0, end).is_none()
 }
 
-/// Whether no destroy callback is to come of what is cleaned: none is declared, or only arrived requests are cleaned.
+/// True only where no destroy callback is to come of what is cleaned: none is declared, or only arrived requests are.
 fn is_destroy_over<A: Agent>(plan: &IndexedPlan, parts: &Parts<A>) -> bool
     ensures { IsTrue result → IsNumbered plan.now parts.now how.Destroy }
 {

@@ -63,9 +63,9 @@ fn offered<A: Agent>(
     }
 }
 
-/// The first place from one on at which a callback of a rank can start on a processor. For cleanup callbacks sets say
-/// whose turn it is and what isn't an arrived request, for destroy callbacks what is cleaned and isn't one, for timers a
-/// tick for each 64 ids says where none is due; for other ranks each place is asked of one part.
+/// The first place from one on at which a callback of a rank can start on a processor. Cleanup and destroy callbacks go
+/// by sets: what has its turn or is cleaned, and isn't an arrived request. Timers go by a tick for each 64 ids. For other
+/// ranks each place is asked of one part.
 fn next_start<A: Agent>(
     plan: &IndexedPlan,
     parts: &Parts<A>,

@@ -103,7 +103,7 @@ impl Names {
         self.found_after(self.place(name), name, wanted)
     }
 
-    /// What `found` answers, with the place of the first declaration of the name.
+    /// What `found` answers, where the place of the name's first declaration is known.
     pub fn found_after(
         &self,
         place: Option<u32>,

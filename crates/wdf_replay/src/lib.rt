@@ -10,8 +10,8 @@
 //!   ending or of a wait line: `WrongEnding`. Else `NotALine`. A line after the whole text of a run gets its reason
 //!   in the same way. So `NotALine` says that no trace of the plan has such a line.
 //! - **How is an event found?** The line is read to its event, whose number must be the next one. The core tests that
-//!   event alone, and takes it exactly where it may follow (`Core::apply_event`). So no others are looked for, but for
-//!   a tick, which follows only where nothing else may come.
+//!   event alone, and takes it exactly where it may follow (`Core::apply_event`). No other event is looked for,
+//!   unless this one is a tick: a tick follows only where nothing else may come.
 //! - **How are the lines after the events compared?** The line that comes next is printed and compared byte by byte.
 //!   There is one such line at a time.
 //! - **What is left on the core?** The events of the good lines, so that a caller can ask how the run is where the

@@ -2,8 +2,8 @@
 //!
 //! # Choices
 //!
-//! - **What if the system can't give the words?** Then there are none. Running out of memory for them is answered as
-//!   any other, with 15, since nothing was read.
+//! - **What if there is no memory for the words?** 15, as for any other memory; nothing was read. `wdf_arguments` says what else the
+//!   system may refuse.
 //! - **Why are the promises of the top call one record?** `Promises` is said of `top` for its words, and of `serve`
 //!   for the words after the program's name. So `serve` says all that `top` says, and no clause is written twice.
 //! - **Where is `top`?** In `wdf_serve`, above `wdf_top` and `wdf_workers`. So a change on the side of the threads

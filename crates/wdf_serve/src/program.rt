@@ -30,8 +30,8 @@ use wdf_turn::Gate;
 /// [`top`] for the words after the program's name. What it says of the bytes counts for each
 /// reader that says what it has left, and for each writer that says what it has taken. (own)
 ///
-/// Where the system can't give the arguments there are no words. Where memory for them is refused, the
-/// line `out of memory` is written, with the status 15, and nothing is read.
+/// Where the system can't give the arguments for another reason than memory, there are no words. Where memory
+/// for them is refused, the line `out of memory` is written, with the status 15, and nothing is read.
 pub fn serve<T: Threads + Wait + Sync, R: Read, W: Write + Send, G: Gate + Sync>(
     rt: &T,
     alloc: Global,

@@ -16,7 +16,7 @@ const BLOCK: u32 = 512;
 /// How many words a block has.
 const BLOCK_WORDS: u32 = 8;
 
-/// The bound is rounded up to a multiple of this: as many ids have their words noted in one word.
+/// The bound is rounded up to a multiple of this: one word notes for so many ids which words have a member.
 const ROUND: u32 = 4096;
 
 /// A set of ids below a bound. No call looks at each id: the members of each 512 ids are counted, and it is
@@ -218,6 +218,7 @@ impl IdSet {
             skipped,
         }
     }
+
     /// The word of the member that is looked for, in a block that has it.
     fn word_of(&self, block: Part) -> Part
         requires block { HasMember self.now block 512 }

@@ -1,5 +1,5 @@
 //! Sets of ids below a bound: members come and go, are counted below an id, and are found by
-//! their number or from an id on, without a look at each id, or at words that have none.
+//! their number or from an id on, without a look at each id. A search passes over words of 64 ids that have none.
 #![tactic(auto)]
 
 mod bits;

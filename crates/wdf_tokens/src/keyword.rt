@@ -172,7 +172,7 @@ const WORDS: [&str; 52] = [
     "cancel",
 ];
 
-/// The keywords that begin with this letter, those that most lines have first.
+/// The keywords that begin with this letter; those that stand on most lines come first.
 #[tactic(auto, unfolding(crate::specs::Keywords::with_letter))]
 fn with_letter(letter: u8) -> &'static [Keyword]
     ensures { result.now ≡ with_letter letter }
@@ -232,7 +232,7 @@ fn with_letter(letter: u8) -> &'static [Keyword]
     }
 }
 
-/// The keywords among which that with this word is, if there is one.
+/// The keywords with the first letter of a word; none for an empty word.
 fn alike(word: &[u8]) -> &'static [Keyword]
     ensures { result.now ≡ alike word.now }
 {

@@ -12,8 +12,8 @@
 //! - **What is a column where no token begins?** One to which whole pieces lead, each as long as it can be: that is
 //!   how tokens are cut. `crates/wdf_tokens/specs/Tokens.antt` says what such a piece is; the relation uses it and no
 //!   fold over the line.
-//! - **How is a keyword found?** Among those with the word's first letter. A keyword that isn't listed for its letter
-//!   would break the proof that each is found.
+//! - **How is a keyword found?** Among those with the word's first letter. The proof that each keyword is found fails
+//!   where one isn't listed for its letter.
 #![tactic(auto)]
 
 mod keyword;

@@ -41,7 +41,7 @@ pub struct Tree {
     turns: IdSet,
     /// Those that may be destroyed, by the tree alone.
     ends: IdSet,
-    /// The objects that count against the limit: all that aren't gone but arrived requests.
+    /// The objects that count against the limit: those that aren't gone, but for arrived requests.
     counted: IdSet,
 }
 
