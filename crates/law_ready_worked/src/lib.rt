@@ -1,6 +1,8 @@
-//! How many events may follow after each event of a worked run, for each event a number. It is the length of the list that the
-//! definitions filter from all candidates: no count of the code's has a part in it. `test_ready` holds the code's counts
-//! against these numbers.
+//! How many events may follow after each event of a worked run, computed from the definitions. Each number is the length of the
+//! list that a plain filter leaves of all candidates; nothing that the code counts or keeps has a part in it.
+//!
+//! `law_machine_worked` has the plan and the events, and says that they are the run which the plan's picks determine. `test_ready`
+//! compares what a core says with these numbers.
 #![tactic(auto)]
 
 ghost use Rattle.std.specs.Prelude.{◌≡◌, ◌≤◌, length, take};
