@@ -1,5 +1,5 @@
 -- How many events may follow the first events of a run, computed with the state carried along.
-use Rattle.std.proofs.Common.{◌≡◌, ℕ, zero, suc, ◌≤◌, List, [], ◌∷◌, ◌++◌, length, take, Option, Some, None, slice_index_or, append-nil, append_assoc, refl, ap, sym, ◌∙◌, arith}
+use Rattle.std.proofs.Common.{◌≡◌, ℕ, zero, suc, ◌≤◌, List, [], ◌∷◌, ◌++◌, length, take, Option, None, slice_index_or, append-nil, append_assoc, refl, arith}
 use Rattle.wdf_base.specs.declared.event.Event.{Event}
 use Rattle.wdf_base.specs.declared.event.Fault.{Fault}
 use Rattle.wdf_base.specs.declared.plan.Plan.{Plan}
@@ -7,7 +7,6 @@ use Rattle.wdf_model.specs.State.{State, opening}
 use Rattle.wdf_model.specs.agents.AnyAgent.{AnyAgent, agents}
 use Rattle.wdf_model.specs.rules.Ready.{fault_in, last_fault, ready, ready_in, state_after, unless_fault}
 use Rattle.wdf_model.specs.rules.Steps.{after}
-use Rattle.wdf_model.specs.rules.Script.{value_of}
 use Rattle.law_machine_base.proofs.Follows.{last_fault_of, state_goes_on}
 use Rattle.law_machine_worked.specs.RunsOfSerial.{serial_port_plan, serial_port_events}
 
