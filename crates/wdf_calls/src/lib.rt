@@ -22,4 +22,4 @@ mod waits;
 pub use answers::Outcome;
 pub use arguments::{class_in, number_in, value_in};
 pub use table::outcome;
-pub use waits::{is_met, is_met_then, second_deeds};
+pub use waits::{do_second, is_met, is_met_then};

@@ -53,5 +53,5 @@ pub(crate) fn release_outcome<A: Agent>(
 {
     let lock = LockRef::Object(object);
     let level = lock_level(plan, parts, object);
-    success(Deeds::two(Deed::ReleaseLock { lock }, Deed::Lower { frame, level }))
+    success(Deeds::and_lower(Deed::ReleaseLock { lock }, frame, level))
 }

@@ -5,10 +5,12 @@ ghost use Rattle.wdf_model.specs.parts.Locks.{is_free_lock, object_lock};
 ghost use Rattle.wdf_model.specs.parts.Queues.{waiting_in};
 ghost use Rattle.wdf_model.specs.parts.Requests.{info_of};
 ghost use Rattle.wdf_model.specs.rules.Calls as calls;
+ghost use Rattle.wdf_model.specs.rules.Deeds.{do_deeds};
+ghost use Rattle.wdf_model.specs.rules.Room.{AreDoable};
 
 use wdf_base::{Agent, Call, CallKind, FrameId, LockRef, ObjectId};
-use wdf_model::{Deed, object_in};
-use wdf_parts::{Deeds, Parts};
+use wdf_model::object_in;
+use wdf_parts::Parts;
 use wdf_plan_index::IndexedPlan;
 use wdf_rules::is_number;
 
@@ -97,19 +99,17 @@ pub fn is_met_then<A: Agent>(plan: &IndexedPlan, parts: &Parts<A>, call: &Call) 
     }
 }
 
-/// What is done when the wait of a frame's call is over: a lock is taken. (KMDF)
-pub fn second_deeds(frame: FrameId, call: &Call) -> Deeds
-    ensures { result ≡ calls.second_deeds frame.0 call.now }
+/// What comes when the wait of a frame's call is over is done: a lock is taken. (KMDF)
+pub fn do_second<A: Agent>(plan: &IndexedPlan, parts: &mut Parts<A>, frame: FrameId, call: &Call)
+    requires { AreDoable plan.now (calls.second_deeds frame.0 call.now) parts.old }
+    ensures { parts.new ≡ do_deeds plan.now (calls.second_deeds frame.0 call.now) parts.old }
 {
+    let _ = plan;
     let lock = LockRef::Object(object_in(call.a));
     match call.kind {
         CallKind::WdfSpinLockAcquire
         | CallKind::WdfWaitLockAcquire
-        | CallKind::WdfInterruptAcquireLock => Deeds::one(Deed::TakeLock {
-            lock,
-            frame,
-            by_call: true,
-        }),
-        _ => Deeds::none(),
+        | CallKind::WdfInterruptAcquireLock => parts.take_lock(lock, frame, true),
+        _ => {}
     }
 }

@@ -1,5 +1,5 @@
 -- Whether one event may follow the events so far.
-use Rattle.std.proofs.Common.{if◌then◌else◌, ◌≡◌, ◌↔◌, ℕ, zero, suc, ◌+◌, Bool, true, false, List, [], ◌∷◌, length, slice_get, Some, sym, ap, refl, subst}
+use Rattle.std.proofs.Common.{if◌then◌else◌, ◌≡◌, ◌↔◌, ℕ, zero, suc, ◌+◌, Bool, true, false, List, [], ◌∷◌, length, slice_get, Option, Some, None, sym, ap, refl, subst, ◌∙◌}
 use Rattle.std.specs.Prelude.{IsTrue}
 use Rattle.wdf_base.specs.Lives.{is_live}
 use Rattle.wdf_base.specs.Meaning.{Meaning}
@@ -7,21 +7,25 @@ use Rattle.wdf_base.specs.declared.call.Callback.TheVariants as callback
 use Rattle.wdf_base.specs.declared.event.Event.{Event}
 use Rattle.wdf_base.specs.declared.event.Event.TheVariants as event
 use Rattle.wdf_base.specs.declared.plan.Plan.{Plan}
-use Rattle.wdf_model.specs.State.{State, declares_in}
+use Rattle.wdf_model.specs.State.{State, declares_in, is_with_driver}
 use Rattle.wdf_model.specs.declared.enums.Group.{Group}
+use Rattle.wdf_model.specs.parts.Requests.{origin_of}
 use Rattle.wdf_model.specs.parts.Tree.{life_of}
 use Rattle.wdf_model.specs.rules.Groups.{candidates}
 use Rattle.wdf_model.specs.rules.Ready.{allowed, or_tick, ready, state_after, waits_for_time}
 use Rattle.wdf_model.specs.rules.Steps.{may}
 use Rattle.wdf_model.proofs.Tests.{both_left, both_right, in_filter}
+use Rattle.law_machine_base.specs.Agreement.{managed_origin}
 use Rattle.law_machine_base.specs.OverRuns.{PlacesAgree}
+use Rattle.law_machine_counts.proofs.HeldOverRuns.{holds_at_each}
+use Rattle.law_machine_counts.proofs.Holding.{HoldsIn}
 use Rattle.law_machine_lives.proofs.Keeping.{at_the_end, known_now}
 use Rattle.law_machine_once.specs.Owned.{StepsOwned}
 use Rattle.law_machine_once.proofs.Steps.{steps_owned_at_each}
 use Rattle.law_machine_places.specs.Placed.{IsAmong}
 use Rattle.law_stuck_named.proofs.Worked.{work_may_run}
 use Rattle.law_stuck_objects.proofs.Places.{nothing_there, request_done}
-use Rattle.wdf_ready.specs.Leaving.{IsSettled}
+use Rattle.wdf_offers.specs.Leaving.{IsSettled}
 use Rattle.wdf_core.specs.Course.{IsUnderWay}
 use Rattle.wdf_core.specs.Going.{goes_on, is_tick}
 use Rattle.wdf_core.proofs.Journal.{ready_going, ready_stopped}
@@ -38,6 +42,10 @@ only_first : (e : Event) (n k : ℕ) → slice_get (event.Tick n ∷ []) k ≡ S
 only_first e n zero at = at
 only_first e n (suc k) at = absurd (let z : ⊥ = cc in z)
 
+noted_by : (plan : Plan) (b : Bool) (o : Option ℕ) → managed_origin plan (if b then o else None) ≡ (if b then managed_origin plan o else 0)
+noted_by plan true o = refl
+noted_by plan false o = refl
+
 module _ {A : Type 0} (m : Meaning A) (plan : Plan) (journal : List Event) (S : State A) (all : List Group) (space : ℕ) (u : IsUnderWay m plan journal S all space) where
   -- requests are where they are, and steps are their devices' own
   pub agree_now : PlacesAgree S
@@ -48,20 +56,25 @@ module _ {A : Type 0} (m : Meaning A) (plan : Plan) (journal : List Event) (S : 
       subst (λ (T : State A). StepsOwned plan T) (sym u.state)
       (at_the_end plan m (λ (T : State A). StepsOwned plan T) journal (steps_owned_at_each plan m journal u.run (length journal)))
 
-  -- no request of an app is deleted that isn't completed, and nothing to which a request is sent; queued work is live and has
-  -- its callback
+  -- no request of an app is deleted that isn't completed, and nothing to which a request is sent; what is queued as a work item
+  -- or as a timer is live and has its callback; and each request is noted as held from the power-managed queue from which the
+  -- driver holds it
   pub settled_now : IsSettled plan S
   settled_now =
       let T : State A = state_after plan m journal in
       let w = work_may_run plan m journal u.resolved u.run in
+      let held : HoldsIn plan T = at_the_end plan m (λ (U : State A). HoldsIn plan U) journal (holds_at_each plan m journal u.run (length journal)) in
       subst (λ (U : State A). IsSettled plan U) (sym u.state)
       (record {
         deleted = record {
           done = request_done plan m journal u.resolved u.run;
           nothing = nothing_there plan m journal u.resolved u.run;
           works = λ o queued. both_left (is_live (life_of T.tree o)) (declares_in plan T callback.EvtWorkItem o) (w.items o queued);
+          timers = λ o queued. both_left (is_live (life_of T.tree o)) (declares_in plan T callback.EvtTimerFunc o) (w.timers o queued);
         };
         declared = λ o queued. both_right (is_live (life_of T.tree o)) (declares_in plan T callback.EvtWorkItem o) (w.items o queued);
+        timed = λ o queued. both_right (is_live (life_of T.tree o)) (declares_in plan T callback.EvtTimerFunc o) (w.timers o queued);
+        holdings = λ r. held.holdings r ∙ noted_by plan (is_with_driver T r) (origin_of T.requests r);
       })
 
   -- ---- beside ticks

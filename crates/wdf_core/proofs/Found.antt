@@ -10,7 +10,7 @@ use Rattle.wdf_model.specs.State.{State}
 use Rattle.wdf_model.specs.rules.Groups.{candidate, candidates_in, groups, places_in}
 use Rattle.wdf_model.specs.rules.Ready.{allowed}
 use Rattle.wdf_model.specs.rules.Steps.{may}
-use Rattle.wdf_ready.specs.Search.{events_of, offered_from}
+use Rattle.wdf_offers.specs.Search.{events_of, offered_from}
 
 -- an item that passes its test stays in front
 kept_first : {Y : Type 0} (passes : Bool) (y : Y) (ys : List Y) → (if passes then y ∷ ys else ys) ≡ cons_option (if passes then Some y else None) ys

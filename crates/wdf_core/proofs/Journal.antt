@@ -26,7 +26,7 @@ use Rattle.law_machine_room.proofs.DoableRuns.{fine_after}
 use Rattle.law_machine_room.proofs.RoomLaws.{each_event_is_doable, room_is_kept}
 use Rattle.wdf_parts.specs.Again.{IsSized}
 use Rattle.wdf_steps.proofs.Parts.{number_kept}
-use Rattle.wdf_ready.specs.Search.{events_of, has_places}
+use Rattle.wdf_offers.specs.Search.{events_of, has_places}
 use Rattle.wdf_ready.proofs.Grouping.{few_groups}
 use Rattle.wdf_ready.proofs.Kept.{fewer_kept, same_events}
 use Rattle.wdf_model.specs.rules.Waits.{if_stuck, wait_lines, wait_list}

@@ -17,7 +17,7 @@ use Rattle.law_touched.specs.Touched.{AgentStates, TopFrame, has_piece, is_of_ti
 use Rattle.law_touched.proofs.Law.{local_touches, log_touches, tick_touches}
 use Rattle.law_touched.proofs.Runs.{untouched_in_run}
 use Rattle.wdf_ready.specs.Counts.{Counts, IsKept, Unknown, is_own, is_stale, is_timed, reads_agents, stale_after, stale_by}
-use Rattle.wdf_ready.specs.Search.{offered_len}
+use Rattle.wdf_offers.specs.Search.{offered_len}
 use Rattle.wdf_ready.specs.declared.stale.Stale.{Stale}
 use Rattle.wdf_ready.specs.declared.stale.Stale.TheVariants as stale
 use Rattle.wdf_core.specs.Course.{IsUnderWay}

@@ -9,7 +9,7 @@ use Rattle.wdf_model.specs.State.{State}
 use Rattle.wdf_model.specs.rules.Groups.{groups}
 use Rattle.wdf_model.specs.rules.Ready.{IsRunOf, state_after}
 use Rattle.wdf_ready.specs.Counts.{Counts, IsKept}
-use Rattle.wdf_ready.specs.Search.{has_places}
+use Rattle.wdf_offers.specs.Search.{has_places}
 
 pub record Course : Type 0 where
   pub plan : Plan

@@ -18,11 +18,12 @@ use std::marker::Model;
 use std::mem;
 use wdf_base::{Actor, Agent, Ending, Event, Fault, Memory, Plan};
 use wdf_model::Group;
+use wdf_offers::any_own;
 use wdf_parts::Parts;
 use wdf_plan_index::IndexedPlan;
 use wdf_ready::{
-    KeptCounts, Side, allowed_at, any_own, first_by, first_of, groups_of, is_allowed, is_by, is_of,
-    is_open, waits_for_time,
+    KeptCounts, Side, allowed_at, first_by, first_of, groups_of, is_allowed, is_by, is_of, is_open,
+    waits_for_time,
 };
 use wdf_same::same_event;
 use wdf_steps::step;

@@ -16,6 +16,7 @@ use Rattle.wdf_maps.specs.Counts.{count_at, moved_count}
 use Rattle.wdf_maps.proofs.Counting.{room_for_one}
 use Rattle.wdf_cpu.specs.Keys.{CountsFrames, Swapped, object_key, wait_key}
 use Rattle.wdf_cpu.specs.Kept.{IsKept, IsSound, cpus_in}
+use Rattle.wdf_cpu.specs.ParkedFor.{CountsParked}
 use Rattle.wdf_cpu.specs.declared.cpus.Cpus.TheInside.{Inside}
 use Rattle.wdf_cpu.specs.Levels.{held_by}
 use Rattle.wdf_cpu.specs.Spending.{IsMoved}
@@ -223,13 +224,14 @@ module _ (a : Inside) (h : IsSound a) (f : ℕ) (live : Bool) (is : live ≡ ent
   live_on e = on_counted a f (object_key (frame_of (cpus_in a) f)) h refl (live_once e)
 
   -- where it is live, it is counted as it is from now on
-  pub sound_change : (frame : Frame) (from to : Option ObjectId) (until : ℕ) (counts awaited ticks : List ℕ)
+  pub sound_change : (frame : Frame) (from to : Option ObjectId) (until : ℕ) (counts awaited parking ticks : List ℕ)
       → (live ≡ true → Swapped (object_key (frame_of (cpus_in a) f)) (object_key frame) a.on counts) → (live ≡ false → counts ≡ a.on)
       → option_map (λ (o : ObjectId). o.0) from ≡ wait_key (frame_of (cpus_in a) f) → option_map (λ (o : ObjectId). o.0) to ≡ wait_key frame
       → awaited ≡ (if live then moved_count a.waits from to else a.waits)
+      → CountsParked (cpus.change (cpus_in a) f frame) parking
       → until ≡ (frame_of (cpus_in a) f).until → (live ≡ true → IsMoved until frame.until a.untils ticks) → (live ≡ false → ticks ≡ a.untils)
-      → IsSound (record a { frames = (cpus.change (cpus_in a) f frame).frames; on = counts; waits = awaited; untils = ticks })
-  sound_change frame from to until counts awaited ticks ons same was now moved spent moves other = record {
+      → IsSound (record a { frames = (cpus.change (cpus_in a) f frame).frames; on = counts; waits = awaited; parked_for = parking; untils = ticks })
+  sound_change frame from to until counts awaited parking ticks ons same was now moved parked spent moves other = record {
     live_room = h.live_room;
     peaks_room = h.peaks_room;
     parked_room = h.parked_room;
@@ -237,6 +239,7 @@ module _ (a : Inside) (h : IsSound a) (f : ℕ) (live : Bool) (is : live ≡ ent
         (λ e. swapped_by a.waits awaited from to _ _ (rw e at moved) was now (wait_counted a f _ h refl (live_once e)))
         (λ e. rw e at moved)
         h.kept;
+    parked_for = parked;
     untils = spending_change_by (cpus_in a) a.untils ticks f frame live live_once
         (λ e. live_is_off (cpus_in a) a.live.items f h.kept.live (sym is ∙ e))
         (λ e. subst (λ n. IsMoved n frame.until a.untils ticks) spent (moves e))

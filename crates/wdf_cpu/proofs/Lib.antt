@@ -11,3 +11,4 @@ pub mod Ticks
 pub mod Leasts
 mod Nexts
 mod Apart
+mod Parking

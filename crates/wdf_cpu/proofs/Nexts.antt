@@ -13,6 +13,7 @@ use Rattle.wdf_sets.proofs.Nexts.{next_also, none_also}
 use Rattle.wdf_tally.specs.Counted.{is_counted}
 use Rattle.wdf_cpu.specs.Keys.{CountsFrames, object_key, wait_key}
 use Rattle.wdf_cpu.specs.Occupied.{is_awaited, is_occupied}
+use Rattle.wdf_cpu.specs.ParkedFor.{CountsParked, is_for, some_parked_for}
 use Rattle.wdf_cpu.proofs.Counting.{any_counted, waits_by_key}
 
 some_or_none : (n : ℕ) → nat_lt 0 n ≡ not (n == 0)
@@ -41,3 +42,12 @@ pub next_awaited_is : (C : Cpus) (counts : List ℕ) (from : ℕ) (found : Optio
     → MatchOption found (NoneFrom (is_counted counts) from OBJECTS) (λ (o : ObjectId). IsNext (is_counted counts) from OBJECTS o.0)
     → MatchOption found (NoneFrom (is_awaited C) from OBJECTS) (λ (o : ObjectId). IsNext (is_awaited C) from OBJECTS o.0)
 next_awaited_is C counts from found h = next_by (is_counted counts) (is_awaited C) from found (awaited C counts h)
+
+parked_for : (C : Cpus) (counts : List ℕ) → CountsParked C counts → (id : ℕ) → id < OBJECTS → is_counted counts id ≡ some_parked_for C id
+parked_for C counts h id low =
+    some_or_none (entry 0 counts id) ∙ ap (λ n. not (n == 0)) (h.counted id low) ∙ any_counted (is_for C id) (is_for C id) (λ f. refl) C.parked
+
+pub next_parked_for_is : (C : Cpus) (counts : List ℕ) (from : ℕ) (found : Option ObjectId) → CountsParked C counts
+    → MatchOption found (NoneFrom (is_counted counts) from OBJECTS) (λ (o : ObjectId). IsNext (is_counted counts) from OBJECTS o.0)
+    → MatchOption found (NoneFrom (some_parked_for C) from OBJECTS) (λ (o : ObjectId). IsNext (some_parked_for C) from OBJECTS o.0)
+next_parked_for_is C counts from found h = next_by (is_counted counts) (some_parked_for C) from found (parked_for C counts h)

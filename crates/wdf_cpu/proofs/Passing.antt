@@ -37,12 +37,12 @@ pub change_elsewhere : (C : Cpus) (f : ℕ) (frame : Frame) (x : ℕ) → x ≢ 
 change_elsewhere C f frame x n = entry_put_other no_frame C.frames f x (record (running C f) { frame = frame }) n
 
 -- tests that agree on all numbers but one
-others_agree : (p q : ℕ → Bool) (f : ℕ) (xs : List ℕ) → count_by (λ y. y == f) xs ≡ 0 → ((x : ℕ) → x ≢ f → q x ≡ p x) → count_by q xs ≡ count_by p xs
+pub others_agree : (p q : ℕ → Bool) (f : ℕ) (xs : List ℕ) → count_by (λ y. y == f) xs ≡ 0 → ((x : ℕ) → x ≢ f → q x ≡ p x) → count_by q xs ≡ count_by p xs
 others_agree p q f xs none same =
     same_on p q xs (λ x more. same x (λ e. let there : 1 ≤ count_by (λ y. y == f) xs = subst (λ z. 1 ≤ count_by (λ y. y == z) xs) e more in let z : ⊥ = omega arith in z))
 
 -- one number taken out of a list, as a parked frame is that comes back
-taken : (p : ℕ → Bool) (f : ℕ) (xs : List ℕ) → count_by (λ y. y == f) xs ≡ 1 → count_by p xs ≡ flag (p f) + count_by p (without f xs)
+pub taken : (p : ℕ → Bool) (f : ℕ) (xs : List ℕ) → count_by (λ y. y == f) xs ≡ 1 → count_by p xs ≡ flag (p f) + count_by p (without f xs)
 taken p f xs one = sym (unparks p (record { frames = []; stacks = []; parked = xs; levels = [] }) 0 f one) ∙ count_cons p f (without f xs)
 
 pub passing_change : (test : Frame → Bool) (C : Cpus) (f : ℕ) (frame : Frame) → on C f ≡ 1 → passing test (cpus.change C f frame) + flag (test (frame_of C f)) ≡ passing test C + flag (test frame)

@@ -5,6 +5,7 @@ use Rattle.wdf_model.specs.Tables.{entry, flag}
 use Rattle.wdf_model.specs.parts.Cpus.{Cpus, all_frames, frame_level}
 use Rattle.wdf_cpu.specs.Spending.{SpendUntil}
 use Rattle.wdf_cpu.specs.Keys.{CountsFrames, object_key, wait_key}
+use Rattle.wdf_cpu.specs.ParkedFor.{CountsParked}
 use Rattle.wdf_cpu.specs.declared.cpus.Cpus.TheInside.{Inside}
 
 abbrev pub cpus_in : Inside → Cpus
@@ -31,4 +32,5 @@ pub record IsSound (a : Inside) : Type 0 where
   pub peaks_room : FRAMES ≤ vec_capacity a.peaks
   pub parked_room : FRAMES ≤ a.parked.room
   pub kept : IsKept (cpus_in a) a.live.items a.peaks.items a.on a.waits
+  pub parked_for : CountsParked (cpus_in a) a.parked_for
   pub untils : SpendUntil (cpus_in a) a.untils

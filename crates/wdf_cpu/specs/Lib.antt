@@ -8,3 +8,4 @@ pub mod FrameUpdate
 pub mod InSlots
 pub mod Kept
 pub mod Occupied
+pub mod ParkedFor

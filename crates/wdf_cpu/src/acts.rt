@@ -5,7 +5,7 @@ ghost use Rattle.wdf_model.specs.parts.Cpus as cpus;
 ghost use Rattle.wdf_maps.specs.Counts.{count_at, moved_count};
 ghost use Rattle.wdf_cpu.specs.FrameUpdate.{gone};
 
-use crate::cpus::{Cpus, object_key, wait_key};
+use crate::cpus::{Cpus, lock_in, lock_key, object_key, wait_key};
 use crate::frame_update::{FrameUpdate, awaits};
 use crate::stack::{pop_from, push_on};
 use crate::untils::move_until_if;
@@ -42,9 +42,17 @@ impl Cpus {
         let now = &self.frames.running(f.0).frame;
         let object = object_key(now);
         let awaited = wait_key(now);
+        let lock = lock_key(now);
         let until = now.until;
+        let parked = self.parked.has_number(f.0);
         moves_if(&mut self.on, live, object, object_key(&frame));
         moves_if(&mut self.waits, live, awaited, wait_key(&frame));
+        moves_if(
+            &mut self.parked_for,
+            parked,
+            Some(lock),
+            Some(lock_key(&frame)),
+        );
         move_until_if(&mut self.untils, live, until, frame.until);
         self.frames.change(f.0, frame);
     }
@@ -58,8 +66,16 @@ impl Cpus {
         let live = entry_at(&self.live, false, f.0);
         let now = &self.frames.running(f.0).frame;
         let awaited = wait_key(now);
+        let lock = lock_key(now);
         let until = now.until;
+        let parked = self.parked.has_number(f.0);
         moves_if(&mut self.waits, live, awaited, awaits(update));
+        moves_if(
+            &mut self.parked_for,
+            parked,
+            Some(lock),
+            Some(lock_in(&update.pending)),
+        );
         move_until_if(&mut self.untils, live, until, update.until);
         self.frames.go_on(f.0, update);
     }
@@ -113,6 +129,8 @@ impl Cpus {
         ensures size { length self.new.stacks ≡ length self.old.stacks }
     {
         if let Some(f) = pop_from(&mut self.stacks, cpu) {
+            let lock = lock_key(&self.frames.running(f).frame);
+            self.parked_for.moves(None, Some(lock));
             self.parked.put(f);
         }
     }
@@ -124,6 +142,8 @@ impl Cpus {
         ensures done { self.new ≡ cpus.unpark self.old cpu.0 f.0 }
         ensures size { length self.new.stacks ≡ length self.old.stacks }
     {
+        let lock = lock_key(&self.frames.running(f.0).frame);
+        self.parked_for.moves(Some(lock), None);
         self.parked.remove_number(f.0);
         push_on(&mut self.stacks, cpu, f.0);
     }

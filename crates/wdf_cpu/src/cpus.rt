@@ -2,6 +2,7 @@ ghost use Rattle.std.specs.Prelude.{◌≡◌, [], length, map, replicate, IfOk}
 ghost use Rattle.std.specs.Option.{option_map};
 ghost use Rattle.wdf_model.specs.parts.Cpus.{opening_cpus, no_frame};
 ghost use Rattle.wdf_cpu.specs.Keys.{object_key, wait_key};
+ghost use Rattle.wdf_cpu.specs.ParkedFor.{lock_in, lock_key, lock_of_call, takes_wait_lock};
 
 use crate::levels::Levels;
 use crate::slots::FrameSlots;
@@ -9,9 +10,12 @@ use crate::stack::Stack;
 use crate::untils::Untils;
 use std::alloc::Global;
 use std::marker::Model;
-use wdf_base::{Callback, Frame, Handle, Irql, Memory, ObjectId, Plan, Status, VARIABLES, Value};
+use wdf_base::{
+    Call, CallKind, Callback, Frame, Handle, Irql, Memory, ObjectId, Pending, Plan, Status,
+    VARIABLES, Value,
+};
 use wdf_maps::Rising;
-use wdf_model::{FRAMES, Running, object_in};
+use wdf_model::{FRAMES, OBJECTS, Running, object_in};
 use wdf_tally::Tally;
 
 /// The handle of no object.
@@ -59,6 +63,8 @@ pub struct Cpus {
     pub(crate) on: Tally,
     /// How many frames wait for an object.
     pub(crate) waits: Tally,
+    /// How many parked frames wait for the wait lock of an id; those that wait for anything else have the id 0.
+    pub(crate) parked_for: Tally,
     /// The ticks until which these frames spend.
     pub(crate) untils: Untils,
 }
@@ -90,6 +96,7 @@ impl Cpus {
             peaks: Vec::with_capacity(alloc, FRAMES as usize)?,
             on: Tally::make(alloc)?,
             waits: Tally::make(alloc)?,
+            parked_for: Tally::make(alloc)?,
             untils: Untils::make(alloc)?,
         })
     }
@@ -108,6 +115,7 @@ impl Cpus {
         self.peaks.clear();
         self.on.clear();
         self.waits.clear();
+        self.parked_for.clear();
         self.untils.clear();
     }
 }
@@ -155,4 +163,40 @@ pub(crate) fn wait_key(frame: &Frame) -> Option<ObjectId>
 {
     let pending = frame.pending?;
     Some(object_in(pending.call.a))
+}
+
+/// The wait lock that a frame waits to take by a call; the id 0 where it waits for anything else, or not at all.
+pub(crate) fn lock_key(frame: &Frame) -> ObjectId
+    ensures { result.0 ≡ lock_key frame.now }
+{
+    lock_in(&frame.pending)
+}
+
+/// The wait lock that such a call waits to take; the id 0 where it waits for anything else, or where there is none.
+pub(crate) fn lock_in(pending: &Option<Pending>) -> ObjectId
+    ensures { result.0 ≡ lock_in pending.now }
+{
+    match pending {
+        Some(pending) => lock_of_call(&pending.call),
+        None => ObjectId(0),
+    }
+}
+
+/// The wait lock that a call takes; the id 0 of another call.
+fn lock_of_call(call: &Call) -> ObjectId
+    ensures { result.0 ≡ lock_of_call call.now }
+{
+    let object = object_in(call.a);
+    if takes_wait_lock(call.kind) && object.0 < OBJECTS {
+        object
+    } else {
+        ObjectId(0)
+    }
+}
+
+/// Whether a call of this kind takes a wait lock.
+fn takes_wait_lock(kind: CallKind) -> bool
+    ensures { result ≡ takes_wait_lock kind }
+{
+    matches!(kind, CallKind::WdfWaitLockAcquire)
 }

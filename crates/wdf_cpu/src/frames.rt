@@ -7,6 +7,7 @@ ghost use Rattle.wdf_model.specs.declared.room.TheConstants.{OBJECTS};
 ghost use Rattle.wdf_sets.specs.Nexts.{IsNext, NoneFrom};
 ghost use Rattle.wdf_cpu.specs.FrameTests.{passes};
 ghost use Rattle.wdf_cpu.specs.Occupied.{is_awaited, is_occupied};
+ghost use Rattle.wdf_cpu.specs.ParkedFor.{is_for, some_parked_for};
 
 use crate::cpus::Cpus;
 use crate::frame_test::FrameTest;
@@ -72,6 +73,21 @@ impl Cpus {
         ensures { MatchOption result (NoneFrom (is_awaited self.now) from.0 OBJECTS) (λ o. IsNext (is_awaited self.now) from.0 OBJECTS o.0) }
     {
         self.waits.next(from)
+    }
+
+    /// The first id from one on for whose wait lock a parked frame waits; one that waits for anything else has the id 0.
+    pub fn next_parked_for(&self, from: ObjectId) -> Option<ObjectId>
+        ensures { MatchOption result (NoneFrom (some_parked_for self.now) from.0 OBJECTS) (λ o. IsNext (some_parked_for self.now) from.0 OBJECTS o.0) }
+    {
+        self.parked_for.next(from)
+    }
+
+    /// How many parked frames wait for the wait lock of an id; with the id 0, how many wait for anything else.
+    pub fn count_parked_for(&self, o: ObjectId) -> u32
+        requires { o.0 < OBJECTS }
+        ensures { result ≡ count_by (is_for self.now o.0) self.now.parked }
+    {
+        self.parked_for.of(o)
     }
 
     /// Whether a frame of this callback, on a processor or parked, is on a device, or on what has it as nearest device.

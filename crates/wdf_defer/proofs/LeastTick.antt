@@ -30,3 +30,7 @@ least_from a (t ∷ ts) = least_from (lesser a t.tick) ts ∙ ap (λ x. earlier 
 
 pub least_is : (ts : List Timed) → earliest_of ts ≡ least (map (λ (t : Timed). t.tick) ts)
 least_is ts = sym (least_from None ts)
+
+pub none_later : (t : Option ℕ) → earlier t None ≡ t
+none_later None = refl
+none_later (Some tick) = refl

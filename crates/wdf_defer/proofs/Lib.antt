@@ -1,6 +1,6 @@
 pub mod DpcLists
-pub mod FloorsKept
-pub mod LatestTick
 pub mod LeastTick
 pub mod QueuedWork
+pub mod Reaching
+pub mod TimersOfSet
 pub mod TimersThatFire

@@ -43,7 +43,7 @@ there_by p x a n false e rest =
     other true pa e r = rw (pa, e) r
     other false pa e r = rw pa r
 
-there : (p : ℕ → Bool) (x a n : ℕ) → a ≤ x → x < a + n → contains x (filter p (range_with_len a n)) ≡ p x
+pub there : (p : ℕ → Bool) (x a n : ℕ) → a ≤ x → x < a + n → contains x (filter p (range_with_len a n)) ≡ p x
 there p x a zero h k = absurd (omega arith)
 there p x a (suc n) h k = there_by p x a n (a == x) refl (λ ne. there p x (a + 1) n (omega arith) (omega arith))
 
@@ -68,7 +68,7 @@ agree_above p q x a (suc n) h k =
     rw (e, r) refl
 
 -- one number more passes
-one_more : (p q : ℕ → Bool) (x a n : ℕ) → ((y : ℕ) → y ≢ x → q y ≡ p y) → p x ≡ false → q x ≡ true → a ≤ x → x < a + n
+pub one_more : (p q : ℕ → Bool) (x a n : ℕ) → ((y : ℕ) → y ≢ x → q y ≡ p y) → p x ≡ false → q x ≡ true → a ≤ x → x < a + n
     → in_order x (filter p (range_with_len a n)) ≡ filter q (range_with_len a n)
 one_more p q x a zero h px qx l k = absurd (omega arith)
 one_more p q x a (suc n) h px qx l k = at_first (cases_eq a x) (λ other. one_more p q x (a + 1) n h px qx (omega arith) (omega arith))
@@ -93,7 +93,7 @@ one_more p q x a (suc n) h px qx l k = at_first (cases_eq a x) (λ other. one_mo
         later (p a) refl (h a other) e (rest other)
 
 -- one number less passes
-one_less : (p q : ℕ → Bool) (x a n : ℕ) → ((y : ℕ) → y ≢ x → q y ≡ p y) → q x ≡ false → without x (filter p (range_with_len a n)) ≡ filter q (range_with_len a n)
+pub one_less : (p q : ℕ → Bool) (x a n : ℕ) → ((y : ℕ) → y ≢ x → q y ≡ p y) → q x ≡ false → without x (filter p (range_with_len a n)) ≡ filter q (range_with_len a n)
 one_less p q x a zero h qx = refl
 one_less p q x a (suc n) h qx =
     let r : without x (filter p (range_with_len (a + 1) n)) ≡ filter q (range_with_len (a + 1) n) = one_less p q x (a + 1) n h qx in

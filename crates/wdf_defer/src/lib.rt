@@ -3,6 +3,8 @@
 
 mod dpcs;
 mod floors;
+mod reached;
+mod ticks;
 mod timers;
 mod work_items;
 

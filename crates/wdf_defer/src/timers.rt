@@ -1,18 +1,21 @@
-ghost use Rattle.std.specs.Prelude.{◌≡◌, ◌+◌, ◌/◌, ◌<◌, ◌^◌, IfOk, IfSome, MatchOption, Some, false, length, map, slice_get, true};
+ghost use Rattle.std.specs.Prelude.{◌≡◌, ◌+◌, ◌<◌, ◌^◌, IfOk, IfSome, MatchOption, Some, filter, length, nat_le, option_map, slice_get, true};
+ghost use Rattle.std.specs.List.{range_with_len};
 ghost use Rattle.wdf_model.specs.parts.Deferred.Timers as timers;
-ghost use Rattle.wdf_model.specs.Tables as tables;
 ghost use Rattle.wdf_maps.specs.Places.{rises, with_entry};
 ghost use Rattle.wdf_sets.specs.Nexts.{IsNext, NoneFrom};
-ghost use Rattle.wdf_defer.specs.Floors.{IsFloor, are_floors};
-ghost use Rattle.wdf_defer.specs.Ticks.{Replaces, due_tick, earlier, earliest_of, latest_of, timer_id};
-ghost use Rattle.wdf_defer.specs.Timers.{AreApart, is_due_at};
+ghost use Rattle.wdf_defer.specs.Ticks.{earlier, timer_id};
+ghost use Rattle.wdf_defer.specs.Timers.{AreApart, AreTimersInOrder, due_ids, is_due_at, timed_at};
 
-use crate::floors::{BLOCK, Floors, NEVER};
+use crate::floors::{Floors, NEVER};
+use crate::reached::reach_all;
+use crate::ticks::DueTicks;
+use crate::work_items::{clear_set, empty_set};
 use std::alloc::Global;
 use std::marker::Model;
 use wdf_base::{Memory, ObjectId, Plan};
-use wdf_maps::Rising;
+use wdf_maps::object_at;
 use wdf_model::{OBJECTS, Timed};
+use wdf_sets::IdSet;
 
 /// The most ticks from the start of a timer to its due tick. (own)
 const LONGEST: u64 = 1_000_000;
@@ -20,11 +23,17 @@ const LONGEST: u64 = 1_000_000;
 /// The queued timers. All calls but [`Timers::make`] take no memory.
 #[derive(Drop)]
 pub struct Timers {
-    queued: Rising<Timed>,
-    /// The greatest due tick of the queued timers, 0 where there is none.
-    latest: u64,
-    /// For each 64 ids a tick before which none of their timers is due.
+    queued: IdSet,
+    /// The due tick of each, by id.
+    ticks: DueTicks,
+    /// The queued timers whose due tick was reached at the tick that was told last.
+    reached: IdSet,
+    /// For each 64 ids a tick before which none of their other timers is due.
     floors: Floors,
+    /// The same of all ids.
+    least: u64,
+    /// The tick that was told last.
+    seen: u64,
 }
 
 impl Model for Timers {
@@ -39,40 +48,6 @@ impl Model for Timers {
     ghost invariant = { IsSound };
 }
 
-/// The greatest due tick of these timers, 0 where there is none.
-fn latest_tick(queued: &[Timed]) -> u64
-    ensures { result ≡ latest_of queued.now }
-{
-    let mut latest = 0;
-    for timed in queued {
-        latest = timed.tick.max(latest);
-    }
-    latest
-}
-
-/// The greatest due tick, where it was `latest` before one due tick went and another one came. The
-/// timers are looked at only where the one that went was the greatest, and the one that came is less.
-fn latest_after(queued: &[Timed], latest: u64, went: u64, came: u64) -> u64
-    requires { Replaces latest went came (latest_of queued.now) }
-    ensures { result ≡ latest_of queued.now }
-{
-    if came < went && went == latest {
-        latest_tick(queued)
-    } else {
-        latest.max(came)
-    }
-}
-
-/// The due tick of a timer, 0 where it isn't queued.
-fn tick_of(timed: Option<Timed>) -> u64
-    ensures { result ≡ due_tick timed }
-{
-    match timed {
-        Some(timed) => timed.tick,
-        None => 0,
-    }
-}
-
 /// The earlier of two ticks, as far as they are there.
 fn earlier(one: Option<u64>, other: Option<u64>) -> Option<u64>
     ensures { result ≡ earlier one other }
@@ -84,30 +59,14 @@ fn earlier(one: Option<u64>, other: Option<u64>) -> Option<u64>
     }
 }
 
-/// The least due tick of these timers, if there is one.
-fn least_tick(queued: &[Timed]) -> Option<u64>
-    ensures { result ≡ earliest_of queued.now }
+/// A timer with its due tick.
+fn timed_at(ticks: &DueTicks, o: ObjectId) -> Timed
+    ensures { result ≡ timed_at ticks.now o.0 }
 {
-    let mut least = None;
-    for timed in queued {
-        least = earlier(least, Some(timed.tick));
+    Timed {
+        timer: o,
+        tick: ticks.of(o),
     }
-    least
-}
-
-/// The least due tick of the queued timers whose ids have a floor with this id.
-fn floor_in(queued: &Rising<Timed>, id: ObjectId) -> u64
-    requires rising { rises timer_id 0 OBJECTS queued.now.entries ≡ true }
-    requires object { id.0 < OBJECTS }
-    ensures { IsFloor queued.now.entries (id.0 / 64) result }
-{
-    let start = id.0 / BLOCK * BLOCK;
-    let end = queued.before(start + BLOCK);
-    let mut floor = NEVER;
-    for place in queued.before(start)..end {
-        floor = floor.min(queued.at(place).tick);
-    }
-    floor
 }
 
 impl Timers {
@@ -116,9 +75,12 @@ impl Timers {
         ensures { IfOk result (λ made. made ≡ timers.no_timers) }
     {
         Ok(Timers {
-            queued: Rising::make(alloc, OBJECTS)?,
-            latest: 0,
+            queued: empty_set(alloc, OBJECTS)?,
+            ticks: DueTicks::make(alloc)?,
+            reached: empty_set(alloc, OBJECTS)?,
             floors: Floors::make(alloc)?,
+            least: NEVER,
+            seen: 0,
         })
     }
 
@@ -126,9 +88,12 @@ impl Timers {
     pub fn begin_again(&mut self)
         ensures { self.new ≡ timers.no_timers }
     {
-        self.queued.clear();
-        self.latest = 0;
+        clear_set(&mut self.queued);
+        self.ticks.clear();
+        clear_set(&mut self.reached);
         self.floors.clear();
+        self.least = NEVER;
+        self.seen = 0;
     }
 
     /// How many timers are queued.
@@ -143,7 +108,7 @@ impl Timers {
         requires { k < length self.now.queued }
         ensures { slice_get self.now.queued k ≡ Some result }
     {
-        self.queued.at(k)
+        timed_at(&self.ticks, ObjectId(self.queued.at(k).unwrap()))
     }
 
     /// Whether the timer is queued.
@@ -164,45 +129,136 @@ impl Timers {
     pub fn next_timer(&self) -> Option<u64>
         ensures { result ≡ timers.next_timer self.now }
     {
-        least_tick(self.queued.as_slice())
+        let mut least = None;
+        for place in 0..self.len() {
+            least = earlier(least, Some(self.at(place).tick));
+        }
+        least
     }
 
-    /// The first place from one on, by rising id, of a queued timer whose due tick is reached. Timers of 64 ids are passed
-    /// over at once where none of them is due.
+    /// A tick is told: which timers are due at it is answered without a search from now on. Only where a timer becomes due
+    /// they are looked at, 64 ids at a time.
+    pub fn reach(&mut self, now: u64)
+        ensures { self.new ≡ self.old }
+    {
+        if now < self.seen {
+            return;
+        }
+        if self.least <= now {
+            self.least = reach_all(
+                &self.queued,
+                &self.ticks,
+                &mut self.reached,
+                &mut self.floors,
+                now,
+            );
+        }
+        self.seen = now;
+    }
+
+    /// The first place from one on, by rising id, of a queued timer whose due tick is reached. It goes over the places where
+    /// this tick wasn't told.
     pub fn next_due(&self, from: u32, now: u64) -> Option<u32>
         ensures next { MatchOption result (NoneFrom (is_due_at self.now now) from (length self.now.queued)) (λ place. IsNext (is_due_at self.now now) from (length self.now.queued) place) }
         ensures apart { AreApart self.now }
     {
-        let mut at = from;
-        'search: while at < self.queued.len() {
-            if self.queued.at(at).tick <= now {
-                return Some(at);
+        if self.seen != now {
+            return self.searched_due(from, now);
+        }
+        let start = match self.queued.at(from) {
+            Some(start) => start,
+            None => return None,
+        };
+        match self.reached.next(start, OBJECTS) {
+            Some(o) => Some(self.queued.before(o)),
+            None => None,
+        }
+    }
+
+    /// The same by a search.
+    fn searched_due(&self, from: u32, now: u64) -> Option<u32>
+        ensures { MatchOption result (NoneFrom (is_due_at self.now now) from (length self.now.queued)) (λ place. IsNext (is_due_at self.now now) from (length self.now.queued) place) }
+    {
+        for place in from..self.len() {
+            if self.at(place).tick <= now {
+                return Some(place);
             }
-            at = self.past(at, now);
         }
         None
     }
 
-    /// The next place after one at which no timer is due that may have a due one.
-    fn past(&self, at: u32, now: u64) -> u32
-        requires within { at < length self.now.queued }
-        requires late { is_due_at self.now now at ≡ false }
-        ensures further { at < result }
-        ensures none { NoneFrom (is_due_at self.now now) at result }
+    /// How many timers with a lesser id are due. It goes over the ids where this tick wasn't told.
+    pub fn due_before(&self, o: ObjectId, now: u64) -> u32
+        ensures count { result ≡ length (filter (λ x. timers.timer_due self.now x now) (range_with_len 0 o.0)) }
+        ensures rising { AreTimersInOrder self.now }
     {
-        let timer = self.queued.at(at).timer;
-        if now < self.floors.of(timer) {
-            self.queued.before(timer.0 / BLOCK * BLOCK + BLOCK)
-        } else {
-            at + 1
+        if self.seen != now {
+            return self.counted_before(o, now);
         }
+        self.reached.before(o.0)
     }
 
-    /// Whether a timer is due later than now.
+    /// The same by a count.
+    fn counted_before(&self, o: ObjectId, now: u64) -> u32
+        ensures { result ≡ length (filter (λ x. timers.timer_due self.now x now) (range_with_len 0 o.0)) }
+    {
+        let mut count = 0;
+        for id in 0..o.0 {
+            if self.timer_due(ObjectId(id), now) {
+                count += 1;
+            }
+        }
+        count
+    }
+
+    /// The k-th due timer, by rising id from 0; `None` exactly where there are fewer. It goes over the ids where this tick
+    /// wasn't told.
+    pub fn nth_due(&self, k: u32, now: u64) -> Option<ObjectId>
+        ensures item { option_map (λ o. o.0) result ≡ slice_get (due_ids self.now now) k }
+        ensures rising { AreTimersInOrder self.now }
+    {
+        if self.seen != now {
+            return self.searched_nth(k, now);
+        }
+        object_at(self.reached.at(k))
+    }
+
+    /// The same by a search.
+    fn searched_nth(&self, k: u32, now: u64) -> Option<ObjectId>
+        ensures { option_map (λ o. o.0) result ≡ slice_get (due_ids self.now now) k }
+    {
+        let mut left = k;
+        for id in 0..OBJECTS {
+            if self.timer_due(ObjectId(id), now) {
+                if left == 0 {
+                    return Some(ObjectId(id));
+                }
+                left -= 1;
+            }
+        }
+        None
+    }
+
+    /// Whether a timer is due later than now. It goes over them where this tick wasn't told.
     pub fn any_later_timer(&self, now: u64) -> bool
         ensures { result ≡ timers.any_later_timer self.now now }
     {
-        now < self.latest
+        if self.seen != now {
+            return self.some_later(now);
+        }
+        self.reached.len() < self.queued.len()
+    }
+
+    /// The same by a search.
+    fn some_later(&self, now: u64) -> bool
+        ensures { result ≡ timers.any_later_timer self.now now }
+    {
+        for place in 0..self.len() {
+            if now < self.at(place).tick {
+                return true;
+            }
+        }
+        false
     }
 
     /// The timer with its due tick, where it is queued.
@@ -211,7 +267,11 @@ impl Timers {
         ensures object { IfSome result (λ t. t.timer.0 < OBJECTS) }
         ensures rising { rises timer_id 0 OBJECTS self.now.queued ≡ true }
     {
-        self.queued.get(o)
+        if self.queued.contains(o.0) {
+            Some(timed_at(&self.ticks, o))
+        } else {
+            None
+        }
     }
 
     /// Queues a timer with its due tick, or gives it this one. The answer says whether it was queued.
@@ -220,12 +280,16 @@ impl Timers {
         ensures answer { result ≡ timers.is_timer_queued self.old timed.timer.0 }
         ensures done { self.new.queued ≡ with_entry timer_id timed self.old.queued }
     {
-        let went = self.queued.get(timed.timer);
-        let was_queued = self.queued.put(timed);
-        let queued = self.queued.as_slice();
-        self.latest = latest_after(queued, self.latest, tick_of(went), timed.tick);
-        self.floors
-            .put(timed.timer, floor_in(&self.queued, timed.timer));
+        let o = timed.timer;
+        let was_queued = self.queued.contains(o.0);
+        self.queued.put(o.0, true);
+        self.ticks.put(o, timed.tick);
+        self.reached.put(o.0, timed.tick <= self.seen);
+        if self.seen < timed.tick {
+            let floor = self.floors.of(o);
+            self.floors.put(o, floor.min(timed.tick));
+            self.least = self.least.min(timed.tick);
+        }
         was_queued
     }
 
@@ -248,12 +312,10 @@ impl Timers {
         ensures answer { result ≡ timers.is_timer_queued self.old o.0 }
         ensures done { self.new ≡ timers.stop self.old o.0 }
     {
-        let went = self.queued.get(o);
-        let was_queued = self.queued.remove(o);
-        let queued = self.queued.as_slice();
-        self.latest = latest_after(queued, self.latest, tick_of(went), 0);
+        let was_queued = self.queued.contains(o.0);
         if was_queued {
-            self.floors.put(o, floor_in(&self.queued, o));
+            self.queued.put(o.0, false);
+            self.reached.put(o.0, false);
         }
         was_queued
     }

@@ -30,7 +30,7 @@ impl Model for WorkItems {
 }
 
 /// The empty set of ids below a bound.
-fn empty_set(alloc: Global, bound: u32) -> Result<IdSet, Memory>
+pub(crate) fn empty_set(alloc: Global, bound: u32) -> Result<IdSet, Memory>
     requires { bound < 2 ^ 31 }
     ensures members { IfOk result (λ set. members set ≡ []) }
     ensures room { IfOk result (λ set. bound ≤ length set) }
@@ -39,7 +39,7 @@ fn empty_set(alloc: Global, bound: u32) -> Result<IdSet, Memory>
 }
 
 /// A set has no member any more.
-fn clear_set(set: &mut IdSet)
+pub(crate) fn clear_set(set: &mut IdSet)
     ensures members { members set.new ≡ [] }
     ensures room { length set.new ≡ length set.old }
 {

@@ -10,8 +10,9 @@ ghost use Rattle.wdf_model.specs.Tables.{change_at, entry};
 ghost use Rattle.wdf_model.specs.parts.Cpus.{frame_of};
 ghost use Rattle.wdf_cpu.specs.FrameUpdate.{gone};
 ghost use Rattle.wdf_model.specs.rules.Room.{AreDoable, IsDoable, MayGiveUp};
+ghost use Rattle.wdf_parts.specs.List.{lowers};
 
-use crate::list::Deeds;
+use crate::list::{Deeds, Lowered};
 use crate::parts::Parts;
 use wdf_base::{Agent, Frame, FrameId, ObjectId, Place, Status};
 use wdf_cpu::FrameUpdate;
@@ -25,148 +26,127 @@ impl<A: Agent> Parts<A> {
         requires { IsDoable plan.now deed.now self.old }
         ensures { self.new ≡ deeds.do_deed plan.now deed.now self.old }
     {
-        match *deed {
+        match deed {
             Deed::Create {
                 kind,
                 class,
                 parent,
-            } => self.create(kind, class, parent),
-            Deed::MakeRequest { class, parent } => self.make_request(class, parent),
+            } => self.create(*kind, *class, *parent),
+            Deed::MakeRequest { class, parent } => self.make_request(*class, *parent),
             Deed::Arrive {
                 device,
                 info,
                 place,
-            } => self.arrive(device, info, place),
-            Deed::CountArrival { agent } => self.count_arrival(agent),
-            Deed::AskDeletion { object } => self.ask_objects(object),
-            Deed::Refer { object } => self.tree.reference(object),
+            } => self.arrive(*device, *info, *place),
+            Deed::CountArrival { agent } => self.count_arrival(*agent),
+            Deed::AskDeletion { object } => self.ask_objects(*object),
+            Deed::Refer { object } => self.tree.reference(*object),
             Deed::Unrefer { object } => {
-                let _was_held = self.tree.dereference(object);
+                let _was_held = self.tree.dereference(*object);
             }
             Deed::WriteCell {
                 object,
                 cell,
                 value,
-            } => self.tree.set(object, cell as u8, value),
-            Deed::Note { object, callback } => self.tree.note_start(object, callback),
-            Deed::CleanUp { object } => self.tree.clean(object),
-            Deed::EndLife { object } => {
-                self.tree.destroy(object);
-                self.requests.forget(object);
-            }
+            } => self.tree.set(*object, *cell as u8, *value),
+            Deed::Note { object, callback } => self.tree.note_start(*object, *callback),
+            Deed::CleanUp { object } => self.clean_up(*object),
+            Deed::EndLife { object } => self.end_life(*object),
             Deed::PushFrame {
                 cpu,
                 number,
                 frame,
                 level,
-            } => self.cpus.push(cpu, number, frame, level),
-            Deed::GoOn { number, frame } => self.cpus.change(number, frame),
-            Deed::Raise { frame, level } => self.cpus.raise(frame, level),
-            Deed::Lower { frame, level } => self.cpus.lower(frame, level),
-            Deed::PopFrame { cpu } => self.cpus.pop(cpu),
-            Deed::ParkFrame { cpu } => self.cpus.park(cpu),
-            Deed::UnparkFrame { cpu, frame } => self.cpus.unpark(cpu, frame),
+            } => self.push_frame(plan, *cpu, *number, frame, *level),
+            Deed::GoOn { number, frame } => self.change_frame(plan, *number, frame),
+            Deed::Raise { frame, level } => self.cpus.raise(*frame, *level),
+            Deed::Lower { frame, level } => self.cpus.lower(*frame, *level),
+            Deed::PopFrame { cpu } => self.pop_frame(*cpu),
+            Deed::ParkFrame { cpu } => self.park_frame(*cpu),
+            Deed::UnparkFrame { cpu, frame } => self.unpark_frame(*cpu, *frame),
             Deed::TakeLock {
                 lock,
                 frame,
                 by_call,
-            } => self.locks.take(lock, frame, by_call),
-            Deed::ReleaseLock { lock } => self.locks.release(lock),
-            Deed::Present { queue, request } => self.present(plan, queue, request),
-            Deed::Receive { queue, request } => self.receive(plan, queue, request),
-            Deed::Requeue { request, queue } => self.requeue(queue, request),
-            Deed::Forward { request, queue } => self.forward(queue, request),
-            Deed::GiveBack { request, queue } => self.give_back(plan, queue, request),
-            Deed::Withdraw { queue, request } => self.withdraw(plan, queue, request),
+            } => self.take_lock(*lock, *frame, *by_call),
+            Deed::ReleaseLock { lock } => self.release_lock(*lock),
+            Deed::Present { queue, request } => self.present(plan, *queue, *request),
+            Deed::Receive { queue, request } => self.receive(plan, *queue, *request),
+            Deed::Requeue { request, queue } => self.requeue(*queue, *request),
+            Deed::Forward { request, queue } => self.forward(*queue, *request),
+            Deed::GiveBack { request, queue } => self.give_back(plan, *queue, *request),
+            Deed::Withdraw { queue, request } => self.withdraw(plan, *queue, *request),
             Deed::MarkRequest { request } => {
-                let _status = self.requests.mark(request);
+                let _status = self.requests.mark(*request);
             }
             Deed::UnmarkRequest { request } => {
-                let _status = self.requests.unmark(request);
+                let _status = self.requests.unmark(*request);
             }
-            Deed::CancelRequest { request } => self.requests.cancel(request),
-            Deed::TakeCancel { request } => self.requests.take_cancel(request),
+            Deed::CancelRequest { request } => self.requests.cancel(*request),
+            Deed::TakeCancel { request } => self.requests.take_cancel(*request),
             Deed::SendRequest {
                 request,
                 target,
                 forget,
-            } => self.send(request, target, forget),
-            Deed::FinishSending { request, status } => self.finish_sending(request, status),
+            } => self.send(*request, *target, *forget),
+            Deed::FinishSending { request, status } => self.finish_sending(*request, *status),
             Deed::ComeBack { request } => {
-                self.targets.back(request);
-                self.requests.move_to(request, Place::Owned);
+                self.targets.back(*request);
+                self.requests.move_to(*request, Place::Owned);
             }
-            Deed::CompleteRequest { request } => self.complete(request),
-            Deed::SetMode { queue, mode } => self.control.set_mode(queue, mode),
-            Deed::PurgeQueue { queue } => self.purge(plan, queue),
-            Deed::CloseReturning { device } => self.close_returning(plan, device),
+            Deed::CompleteRequest { request } => self.complete(*request),
+            Deed::SetMode { queue, mode } => self.control.set_mode(*queue, *mode),
+            Deed::PurgeQueue { queue } => self.purge(plan, *queue),
+            Deed::CloseReturning { device } => self.close_returning(plan, *device),
             Deed::CloseDevice { device } => {
-                self.control.shut(device);
-                self.close_queues(plan, device);
+                self.control.shut(*device);
+                self.close_queues(plan, *device);
             }
-            Deed::RegisterQueue { queue, on } => self.control.notify(queue, on),
-            Deed::NotifyQueue { queue } => self.control.notified(queue),
-            Deed::AdvancePower { device, step } => self.power.advance(device, step),
-            Deed::Acknowledge { request } => self.power.acknowledge(request),
-            Deed::AskStop { request } => self.power.stop_asked(request),
-            Deed::Resume { request } => self.power.resumed(request),
-            Deed::AskDevice { device, ask } => self.pnp.ask(device, ask),
-            Deed::TakeStep { device } => self.pnp.taken(device),
+            Deed::RegisterQueue { queue, on } => self.control.notify(*queue, *on),
+            Deed::NotifyQueue { queue } => self.control.notified(*queue),
+            Deed::AdvancePower { device, step } => self.power.advance(*device, *step),
+            Deed::Acknowledge { request } => self.power.acknowledge(*request),
+            Deed::AskStop { request } => self.power.stop_asked(*request),
+            Deed::Resume { request } => self.power.resumed(*request),
+            Deed::AskDevice { device, ask } => self.pnp.ask(*device, *ask),
+            Deed::TakeStep { device } => self.pnp.taken(*device),
             Deed::EndStep {
                 device,
                 step,
                 result,
-            } => self.pnp.ended(device, step, result),
-            Deed::EnableInterrupt { interrupt } => self.interrupts.enable(interrupt),
-            Deed::DisableInterrupt { interrupt } => self.interrupts.disable(interrupt),
+            } => self.pnp.ended(*device, *step, *result),
+            Deed::EnableInterrupt { interrupt } => self.interrupts.enable(*interrupt),
+            Deed::DisableInterrupt { interrupt } => self.interrupts.disable(*interrupt),
             Deed::EnqueueDpc { cpu, object } => {
-                let _is_new = self.dpcs.enqueue(cpu, object);
+                let _is_new = self.dpcs.enqueue(*cpu, *object);
             }
             Deed::CancelDpc { object } => {
-                let _was_queued = self.dpcs.cancel(object);
+                let _was_queued = self.dpcs.cancel(*object);
             }
             Deed::TakeDpc { cpu } => {
-                let _first = self.dpcs.take(cpu);
+                let _first = self.dpcs.take(*cpu);
             }
             Deed::EnqueueWork { object } => {
-                let _is_new = self.work_items.enqueue(object);
+                let _is_new = self.work_items.enqueue(*object);
             }
             Deed::CancelWork { object } => {
-                let _was_queued = self.work_items.cancel(object);
+                let _was_queued = self.work_items.cancel(*object);
             }
             Deed::StartTimer { object, ticks } => {
-                let _was_queued = self.timers.start(object, self.clock, ticks);
+                let _was_queued = self.timers.start(*object, self.clock, *ticks);
             }
             Deed::StopTimer { object } => {
-                let _was_queued = self.timers.stop(object);
+                let _was_queued = self.timers.stop(*object);
             }
-            Deed::FireTimer { object, period } => self.timers.fired(object, period),
-            Deed::StopTarget { target } => self.targets.stop(target),
-            Deed::StartTarget { target } => self.targets.start(target),
-            Deed::PassTick => self.clock += 1,
+            Deed::FireTimer { object, period } => self.timers.fired(*object, *period),
+            Deed::StopTarget { target } => self.targets.stop(*target),
+            Deed::StartTarget { target } => self.targets.start(*target),
+            Deed::PassTick => self.pass_tick(),
         }
     }
 
-    /// A frame goes on in its place.
-    pub fn go_on(&mut self, plan: &IndexedPlan, number: FrameId, update: &FrameUpdate)
-        requires { number.0 < length self.old.cpus.frames }
-        ensures { self.new ≡ deeds.do_deed plan.now (Deed.GoOn number (gone update.now (frame_of self.old.cpus number.0))) self.old }
-    {
-        let _ = plan;
-        self.cpus.go_on(number, update);
-    }
-
-    /// A frame is now this one.
-    pub fn change_frame(&mut self, plan: &IndexedPlan, number: FrameId, frame: Frame)
-        requires { number.0 < length self.old.cpus.frames }
-        ensures { self.new ≡ deeds.do_deed plan.now (Deed.GoOn number frame) self.old }
-    {
-        let _ = plan;
-        self.cpus.change(number, frame);
-    }
-
     /// An agent's arrival is counted.
-    fn count_arrival(&mut self, agent: u16)
+    pub fn count_arrival(&mut self, agent: u16)
         requires fits { entry 0 self.old.arrivals agent + 1 < 2 ^ 32 }
         ensures { self.new ≡ record self.old { arrivals = change_at 0 self.old.arrivals agent suc } }
     {
@@ -209,23 +189,33 @@ impl<A: Agent> Parts<A> {
         self.requests.move_to(r, place);
     }
 
-    /// Does the deeds of an event, one after another.
+    /// Does what a call does, one deed after another.
     pub fn do_deeds(&mut self, plan: &IndexedPlan, all: &Deeds)
         requires { AreDoable plan.now all.now self.old }
         ensures { self.new ≡ deeds.do_deeds plan.now all.now self.old }
     {
         self.do_if_any(plan, &all.first);
-        self.do_if_any(plan, &all.second);
-        self.do_if_any(plan, &all.third);
+        self.lower_if_any(plan, all.lowered);
     }
 
     /// Does a deed, if there is one.
-    fn do_if_any(&mut self, plan: &IndexedPlan, deed: &Option<Deed>)
+    pub fn do_if_any(&mut self, plan: &IndexedPlan, deed: &Option<Deed>)
         requires { AreDoable plan.now (option_to_list deed.now) self.old }
         ensures { self.new ≡ deeds.do_deeds plan.now (option_to_list deed.now) self.old }
     {
         if let Some(deed) = deed {
             self.do_deed(plan, deed);
+        }
+    }
+
+    /// A frame holds the level of a lock less, if one does.
+    fn lower_if_any(&mut self, plan: &IndexedPlan, lowered: Option<Lowered>)
+        requires { AreDoable plan.now (lowers lowered) self.old }
+        ensures { self.new ≡ deeds.do_deeds plan.now (lowers lowered) self.old }
+    {
+        let _ = plan;
+        if let Some(lowered) = lowered {
+            self.cpus.lower(lowered.frame, lowered.level);
         }
     }
 }

@@ -60,7 +60,7 @@ impl<A: Agent> Parts<A> {
     }
 
     /// The front of a queue becomes Owned.
-    pub(crate) fn present(&mut self, plan: &IndexedPlan, q: ObjectId, r: ObjectId)
+    pub fn present(&mut self, plan: &IndexedPlan, q: ObjectId, r: ObjectId)
         requires front { queues.front self.old.queues q.0 ≡ Some r.0 }
         requires hold { MayHold self.old q.0 r.0 }
         ensures { self.new ≡ deeds.do_deed plan.now (Deed.Present q r) self.old }

@@ -22,6 +22,7 @@ mod list;
 mod objects;
 mod parts;
 mod readers;
+mod single;
 
-pub use list::Deeds;
+pub use list::{Deeds, Lowered};
 pub use parts::Parts;

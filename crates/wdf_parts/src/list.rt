@@ -1,19 +1,26 @@
-//! The deeds of one event, in a buffer that takes no memory.
-ghost use Rattle.std.specs.Prelude.{◌≡◌, ◌∷◌, ◌++◌, ◌<◌, []};
-ghost use Rattle.std.specs.Option.{option_to_list};
-ghost use Rattle.std.specs.Prelude.{length};
+//! The deeds of one call, in a buffer that takes no memory.
+ghost use Rattle.std.specs.Prelude.{◌≡◌, ◌∷◌, []};
 
 use std::marker::Model;
+use wdf_base::{FrameId, Irql};
 use wdf_model::Deed;
 
-/// The deeds of one event, in the order in which they are done: three at most.
+/// A frame that holds a level less.
+#[derive(Clone, Copy)]
+pub struct Lowered {
+    /// The number of the frame.
+    pub frame: FrameId,
+    /// The level of the lock, from 0 to 12.
+    pub level: Irql,
+}
+
+/// The deeds of one call, in the order in which they are done: one at most, and what it lowers.
 ///
 /// Contracts see the list of the definitions' deeds.
 #[derive(Drop)]
 pub struct Deeds {
     pub(crate) first: Option<Deed>,
-    pub(crate) second: Option<Deed>,
-    pub(crate) third: Option<Deed>,
+    pub(crate) lowered: Option<Lowered>,
 }
 
 impl Model for Deeds {
@@ -34,8 +41,7 @@ impl Deeds {
     {
         Deeds {
             first: None,
-            second: None,
-            third: None,
+            lowered: None,
         }
     }
 
@@ -45,30 +51,17 @@ impl Deeds {
     {
         Deeds {
             first: Some(deed),
-            second: None,
-            third: None,
+            lowered: None,
         }
     }
 
-    /// One deed and then another.
-    pub fn two(first: Deed, second: Deed) -> Deeds
-        ensures { result ≡ first ∷ second ∷ [] }
+    /// One deed, and a frame holds a level less.
+    pub fn and_lower(deed: Deed, frame: FrameId, level: Irql) -> Deeds
+        ensures { result ≡ deed ∷ Deed.Lower frame level ∷ [] }
     {
         Deeds {
-            first: Some(first),
-            second: Some(second),
-            third: None,
-        }
-    }
-
-    /// Three deeds, of which each may be wanting.
-    pub fn three(first: Option<Deed>, second: Option<Deed>, third: Option<Deed>) -> Deeds
-        ensures { result ≡ option_to_list first ++ option_to_list second ++ option_to_list third }
-    {
-        Deeds {
-            first,
-            second,
-            third,
+            first: Some(deed),
+            lowered: Some(Lowered { frame, level }),
         }
     }
 }

@@ -91,7 +91,7 @@ impl<A: Agent> Parts<A> {
     }
 
     /// A request arrives at a device, and enters its queue where it waits.
-    pub(crate) fn arrive(&mut self, device: ObjectId, info: RequestInfo, place: Place)
+    pub fn arrive(&mut self, device: ObjectId, info: RequestInfo, place: Place)
         requires room { length self.old.tree.nodes < OBJECTS }
         requires few { self.old.requests.arrived < EVENTS }
         requires enter { MayEnterIfQueued self.old place (tree.next_id self.old.tree) }
@@ -105,7 +105,7 @@ impl<A: Agent> Parts<A> {
     }
 
     /// A request is completed, and its deletion is asked. (KMDF)
-    pub(crate) fn complete(&mut self, r: ObjectId)
+    pub fn complete(&mut self, r: ObjectId)
         requires { MayGiveUp self.old r.0 }
         ensures { self.new ≡ deeds.ask_objects (record (deeds.give_up self.old r.0) { requests = requests.complete self.old.requests r.0 }) r.0 }
     {

@@ -4,10 +4,7 @@ use Rattle.wdf_base.specs.declared.plan.Plan.{Plan}
 use Rattle.wdf_base.specs.declared.event.Event.{Event}
 use Rattle.wdf_base.specs.Words.{callback_word, call_word, fault_word, stage_word}
 use Rattle.wdf_lines.specs.Lines.{line_text, object_text, cpu_text}
-use Rattle.wdf_spans.specs.declared.bands.Standing.{Standing}
-use Rattle.wdf_spans.specs.declared.bands.Standing.TheVariants as standing
-use Rattle.wdf_spans.specs.declared.moves.Told.{Told}
-use Rattle.wdf_spans.specs.declared.moves.Told.TheVariants as told
+use Rattle.wdf_spans.specs.Words.{standing_word, place_word}
 use Rattle.wdf_perfetto.specs.declared.row.Group.{Group}
 use Rattle.wdf_perfetto.specs.declared.row.Group.TheVariants as group
 use Rattle.wdf_perfetto.specs.declared.row.Sort.{Sort}
@@ -35,28 +32,6 @@ group_word group.Requests = codes "requests"
 abbrev pub sort_word : Sort → List ℕ
 sort_word sort.Request = codes "request"
 sort_word sort.Parked = codes "parked"
-
-abbrev pub standing_word : Standing → List ℕ
-standing_word standing.Off = codes "off"
-standing_word standing.Working = codes "working"
-standing_word standing.Sleeping = codes "sleeping"
-standing_word standing.Removed = codes "removed"
-standing_word standing.Powered = codes "D0"
-standing_word standing.Unpowered = codes "no power"
-standing_word standing.QueuesUp = codes "queues up"
-standing_word standing.QueuesDown = codes "queues down"
-standing_word standing.Started = codes "started"
-standing_word standing.Stopped = codes "stopped"
-standing_word standing.Drained = codes "drained"
-standing_word standing.Purged = codes "purged"
-standing_word standing.Closed = codes "closed"
-
-abbrev pub place_word : Told → List ℕ
-place_word told.Queued = codes "queued"
-place_word told.Owned = codes "owned"
-place_word told.Sent = codes "sent"
-place_word told.Returning = codes "returning"
-place_word told.Done = codes "done"
 
 -- what is written on an item
 abbrev pub title_text : Plan → Title → List ℕ

@@ -1,7 +1,7 @@
 //! What is written on the items of a viewer.
 ghost use Rattle.std.specs.Prelude.{◌≡◌, ◌++◌, map, codes, decimal, string_bytes, OnOk, IfOk};
 ghost use Rattle.wdf_lines.specs.Lines.{object_text};
-ghost use Rattle.wdf_perfetto.specs.Titles.{plain, standing_word, place_word, title_text, line_at};
+ghost use Rattle.wdf_perfetto.specs.Titles.{plain, title_text, line_at};
 
 use crate::row::Title;
 use crate::text::add;
@@ -9,41 +9,6 @@ use itoa::Buffer;
 use std::alloc::Global;
 use wdf_base::{Event, Handle, Memory, Plan};
 use wdf_lines::{line_of, name_bytes};
-use wdf_spans::{Standing, Told};
-
-/// The word of what holds of a device or a queue.
-fn standing_word(standing: Standing) -> &'static str
-    ensures { result.now ≡ standing_word standing }
-{
-    match standing {
-        Standing::Off => "off",
-        Standing::Working => "working",
-        Standing::Sleeping => "sleeping",
-        Standing::Removed => "removed",
-        Standing::Powered => "D0",
-        Standing::Unpowered => "no power",
-        Standing::QueuesUp => "queues up",
-        Standing::QueuesDown => "queues down",
-        Standing::Started => "started",
-        Standing::Stopped => "stopped",
-        Standing::Drained => "drained",
-        Standing::Purged => "purged",
-        Standing::Closed => "closed",
-    }
-}
-
-/// The word of a place.
-fn place_word(told: Told) -> &'static str
-    ensures { result.now ≡ place_word told }
-{
-    match told {
-        Told::Queued => "queued",
-        Told::Owned => "owned",
-        Told::Sent => "sent",
-        Told::Returning => "returning",
-        Told::Done => "done",
-    }
-}
 
 /// Adds a number in decimal digits.
 fn add_number(text: &mut String, number: u64) -> Result<(), Memory>
@@ -82,8 +47,8 @@ pub(crate) fn title_text(alloc: Global, plan: &Plan, title: Title) -> Result<Str
         Title::Waits => add(&mut text, b"waits")?,
         Title::Cancel => add(&mut text, b"cancel")?,
         Title::Stage(stage) => add(&mut text, stage.word().as_bytes())?,
-        Title::Standing(standing) => add(&mut text, standing_word(standing).as_bytes())?,
-        Title::Place(told) => add(&mut text, place_word(told).as_bytes())?,
+        Title::Standing(standing) => add(&mut text, standing.word().as_bytes())?,
+        Title::Place(told) => add(&mut text, told.word().as_bytes())?,
         Title::Fault(fault) => add(&mut text, fault.word().as_bytes())?,
     }
     Ok(text)

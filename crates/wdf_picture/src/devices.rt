@@ -4,7 +4,7 @@ ghost use Rattle.std.specs.Prelude.{◌<◌, ◌^◌, length};
 use crate::cpus::callback_shape;
 use crate::lanes::{Lanes, TALL};
 use crate::level::declared_at;
-use crate::shape::{Label, LaneName, Look, Shape, standing_word};
+use crate::shape::{Label, LaneName, Look, Shape};
 use std::alloc::Global;
 use wdf_base::{Declared, DeviceInfo, Event, Handle, Memory, ObjectId, Plan, Rank};
 use wdf_spans::{Band, BandOf, BandPiece, FrameBox, QueuePiece, Standing, pieces_of};
@@ -17,7 +17,7 @@ fn band_shape(piece: &BandPiece, about: u32, y: u32, height: u32) -> Shape {
     let look = Look::Band(piece.standing);
     let mut shape = Shape::plain(look, piece.from, piece.to, y, height);
     shape.about = about;
-    shape.label = Label::Word(standing_word(piece.standing));
+    shape.label = Label::Word(piece.standing.word());
     if piece.from == 0 {
         // What holds before the first event has no line.
         shape.number = 0;

@@ -1,6 +1,6 @@
 //! Shapes are written into a page.
 use crate::layout::Scale;
-use crate::shape::{Label, Role, Shape, place_word};
+use crate::shape::{Label, Role, Shape};
 use std::alloc::Global;
 use wdf_base::{Event, Handle, Memory, Plan};
 use wdf_lines::{line_of, name_bytes};
@@ -58,7 +58,7 @@ fn push_label(page: &mut Page, plan: &Plan, label: &Label) -> Result<(), Memory>
         Label::Request { request, told } => {
             push_object(page, plan, request)?;
             page.markup(" ")?;
-            page.markup(place_word(told))
+            page.markup(told.word())
         }
         Label::Count { word, count } => {
             page.number(u64::from(count))?;

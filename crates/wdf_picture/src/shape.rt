@@ -65,25 +65,6 @@ fn standing_class(standing: Standing) -> &'static str {
     }
 }
 
-/// The word of what holds in a piece of a band.
-pub(crate) fn standing_word(standing: Standing) -> &'static str {
-    match standing {
-        Standing::Off => "off",
-        Standing::Working => "working",
-        Standing::Sleeping => "sleeping",
-        Standing::Removed => "removed",
-        Standing::Powered => "D0",
-        Standing::Unpowered => "no power",
-        Standing::QueuesUp => "queues up",
-        Standing::QueuesDown => "queues down",
-        Standing::Started => "started",
-        Standing::Stopped => "stopped",
-        Standing::Drained => "drained",
-        Standing::Purged => "purged",
-        Standing::Closed => "closed",
-    }
-}
-
 fn place_class(told: Told) -> &'static str {
     match told {
         Told::Queued => "s p queued",
@@ -91,17 +72,6 @@ fn place_class(told: Told) -> &'static str {
         Told::Sent => "s p sent",
         Told::Returning => "s p returning",
         Told::Done => "s p done",
-    }
-}
-
-/// The word of a place.
-pub(crate) fn place_word(told: Told) -> &'static str {
-    match told {
-        Told::Queued => "queued",
-        Told::Owned => "owned",
-        Told::Sent => "sent",
-        Told::Returning => "returning",
-        Told::Done => "done",
     }
 }
 

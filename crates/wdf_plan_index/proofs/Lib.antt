@@ -1,5 +1,6 @@
 pub mod Finding
 pub mod Gathering
+pub mod Handling
 pub mod Linking
 pub mod Owning
 pub mod Placing

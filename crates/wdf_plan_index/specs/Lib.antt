@@ -1,4 +1,5 @@
 pub mod Belongings
+pub mod Handlers
 pub mod Keys
 pub mod Owners
 pub mod Places

@@ -2,6 +2,7 @@
 use Rattle.std.specs.Prelude.{◌≡◌, length}
 use Rattle.wdf_base.specs.declared.plan.Plan.{Plan}
 use Rattle.wdf_model.specs.Plans.{devices_of, targets_of}
+use Rattle.wdf_plan_index.specs.Handlers.{handlers_of}
 use Rattle.wdf_plan_index.specs.Keys.{devices_over, script_names}
 use Rattle.wdf_plan_index.specs.Owners.{names_of}
 use Rattle.wdf_plan_index.specs.declared.owners.Owner.TheVariants as owner
@@ -15,3 +16,4 @@ pub record AreTables (plan : Plan) (tables : Tables) : Type 0 where
   pub target_names : length tables.targets.items ≡ length (names_of owner.Target plan)
   pub scripts : tables.script_names ≡ script_names plan
   pub belongings : tables.belongings ≡ devices_over plan
+  pub handlers : tables.handlers.items ≡ handlers_of plan

@@ -35,12 +35,9 @@ impl IndexedPlan {
     pub fn handler_for(&self, q: ObjectId, form: RequestForm) -> Option<Callback>
         ensures { result ≡ plans.handler_for self.now q.0 form }
     {
-        if self.declares(typed_handler(form), q) {
-            Some(typed_handler(form))
-        } else if self.declares(Callback::EvtIoDefault, q) {
-            Some(Callback::EvtIoDefault)
-        } else {
-            None
+        match self.tables.handlers.get(q.0 as usize) {
+            Some(handlers) => handlers.of(form),
+            None => None,
         }
     }
 
@@ -84,7 +81,12 @@ impl IndexedPlan {
 }
 
 /// The number of the script of a callback on an object, found by the names that the scripts' owners have.
-fn script_among(plan: &Plan, names: &Places, callback: Callback, owner: &Declared) -> Option<u32>
+pub(crate) fn script_among(
+    plan: &Plan,
+    names: &Places,
+    callback: Callback,
+    owner: &Declared,
+) -> Option<u32>
     requires { names.now ≡ keys.script_names plan.now }
     ensures { result ≡ script_of plan.now callback owner.now }
 {
@@ -94,17 +96,6 @@ fn script_among(plan: &Plan, names: &Places, callback: Callback, owner: &Declare
         }
     }
     None
-}
-
-/// The callback of a queue for a type of requests alone.
-fn typed_handler(form: RequestForm) -> Callback
-    ensures { result ≡ plans.typed_handler form }
-{
-    match form {
-        RequestForm::Read => Callback::EvtIoRead,
-        RequestForm::Write => Callback::EvtIoWrite,
-        RequestForm::Control => Callback::EvtIoDeviceControl,
-    }
 }
 
 /// The level of an execution level: PASSIVE_LEVEL is 0, DISPATCH_LEVEL is 2.

@@ -12,6 +12,7 @@ mod agents;
 mod belongings;
 mod callbacks;
 mod classes;
+mod handlers;
 mod indexed;
 mod keys;
 mod owners;

@@ -1,6 +1,7 @@
 ghost use Rattle.std.specs.Prelude.{IfOk};
 ghost use Rattle.wdf_plan_index.specs.Tables.{AreTables};
 
+use crate::handlers::{Handlers, handlers_of};
 use crate::keys::{devices_over, script_names};
 use crate::owners::{Owner, ids_of};
 use crate::places::Places;
@@ -18,6 +19,8 @@ pub(crate) struct Tables {
     pub(crate) script_names: Places,
     /// For each declared object the device that it belongs to.
     pub(crate) belongings: Places,
+    /// The handlers of each id.
+    pub(crate) handlers: Vec<Handlers>,
 }
 
 /// The tables of a plan.
@@ -32,10 +35,12 @@ pub(crate) fn tables_of(alloc: Global, plan: &Plan) -> Result<Tables, Memory>
     let script_names = Places::make(alloc, names, plan.name_len())?;
     let over = devices_over(alloc, plan)?;
     let belongings = Places::make(alloc, over, plan.declared_len().saturating_add(1))?;
+    let handlers = handlers_of(alloc, plan, &script_names)?;
     Ok(Tables {
         devices,
         targets,
         script_names,
         belongings,
+        handlers,
     })
 }

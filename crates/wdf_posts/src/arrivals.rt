@@ -1,13 +1,15 @@
 //! Requests that arrive. (KMDF, but for what is marked own)
-ghost use Rattle.std.specs.Prelude.{◌≡◌, ◌+◌, ◌<◌, ◌^◌};
+ghost use Rattle.std.specs.Prelude.{◌≡◌, ◌+◌, ◌<◌, ◌^◌, ◌∷◌, []};
 ghost use Rattle.wdf_base.specs.Lives.{is_live};
 ghost use Rattle.wdf_model.specs.Tables.{entry};
 ghost use Rattle.wdf_model.specs.parts.Tree.{life_of};
+ghost use Rattle.wdf_model.specs.declared.deed.Deed.TheVariants as Deed;
+ghost use Rattle.wdf_model.specs.rules.Deeds.{do_deeds};
 ghost use Rattle.wdf_model.specs.rules.Posts as posts;
+ghost use Rattle.wdf_model.specs.rules.Room.{AreDoable};
 
 use wdf_base::{Agent, Handle, Mark, ObjectId, Place, RequestForm, RequestInfo, Status};
-use wdf_model::Deed;
-use wdf_parts::{Deeds, Parts};
+use wdf_parts::Parts;
 use wdf_plan_index::IndexedPlan;
 
 /// The number of the name that a request which arrives prints as: `req`.
@@ -110,32 +112,43 @@ pub(crate) fn arrival_answer<A: Agent>(parts: &Parts<A>, device: ObjectId) -> Op
     }
 }
 
-/// What an arrival does: it is counted, and a live device has a request more.
-pub(crate) fn arrival_deeds<A: Agent>(
+/// A request of an agent arrives at a live device.
+fn arrive<A: Agent>(
     plan: &IndexedPlan,
-    parts: &Parts<A>,
+    parts: &mut Parts<A>,
     agent: u16,
     form: RequestForm,
     length: u64,
     code: u64,
     device: ObjectId,
-) -> Deeds
-    requires { entry 0 parts.now.arrivals agent + 1 < 2 ^ 32 }
-    ensures { result ≡ posts.arrival_deeds plan.now parts.now agent form length code device.0 }
+)
+    requires number { entry 0 parts.old.arrivals agent + 1 < 2 ^ 32 }
+    requires doable { AreDoable plan.now (Deed.CountArrival agent ∷ Deed.Arrive device (posts.arrival_info parts.old agent form length code device.0) (posts.arrival_place plan.now parts.old form length device.0) ∷ []) parts.old }
+    ensures { parts.new ≡ do_deeds plan.now (Deed.CountArrival agent ∷ Deed.Arrive device (posts.arrival_info parts.old agent form length code device.0) (posts.arrival_place plan.now parts.old form length device.0) ∷ []) parts.old }
 {
-    let counted = Deed::CountArrival { agent };
+    let info = arrival_info(parts, agent, form, length, code, device);
+    let place = arrival_place(plan, parts, form, length, device);
+    parts.count_arrival(agent);
+    parts.arrive(device, info, place);
+}
+
+/// What an arrival does is done: it is counted, and a live device has a request more.
+pub(crate) fn arrival<A: Agent>(
+    plan: &IndexedPlan,
+    parts: &mut Parts<A>,
+    agent: u16,
+    form: RequestForm,
+    length: u64,
+    code: u64,
+    device: ObjectId,
+)
+    requires number { entry 0 parts.old.arrivals agent + 1 < 2 ^ 32 }
+    requires doable { AreDoable plan.now (posts.arrival_deeds plan.now parts.old agent form length code device.0) parts.old }
+    ensures { parts.new ≡ do_deeds plan.now (posts.arrival_deeds plan.now parts.old agent form length code device.0) parts.old }
+{
     if is_live(parts, device) {
-        let info = arrival_info(parts, agent, form, length, code, device);
-        let place = arrival_place(plan, parts, form, length, device);
-        Deeds::two(
-            counted,
-            Deed::Arrive {
-                device,
-                info,
-                place,
-            },
-        )
+        arrive(plan, parts, agent, form, length, code, device);
     } else {
-        Deeds::one(counted)
+        parts.count_arrival(agent);
     }
 }

@@ -2,11 +2,14 @@
 ghost use Rattle.std.specs.Prelude.{◌≡◌, ◌∷◌, ◌||◌, [], option_map};
 ghost use Rattle.wdf_base.specs.Places.{is_closing, is_done};
 ghost use Rattle.wdf_model.specs.parts.Requests as definition;
+ghost use Rattle.wdf_model.specs.rules.Deeds.{do_deeds};
 ghost use Rattle.wdf_model.specs.rules.Posts as posts;
+ghost use Rattle.wdf_model.specs.rules.Room.{AreDoable};
 
 use wdf_base::{Agent, ObjectId, Place};
 use wdf_model::Deed;
-use wdf_parts::{Deeds, Parts};
+use wdf_parts::Parts;
+use wdf_plan_index::IndexedPlan;
 use wdf_request::Requests;
 
 /// Whether a request is completed, or about to be.
@@ -85,12 +88,13 @@ fn cancel_at(place: Place, r: ObjectId) -> Deed
     }
 }
 
-/// What the cancel of a request does, if it reaches one.
-pub(crate) fn cancel_deeds<A: Agent>(parts: &Parts<A>, reached: Option<ObjectId>) -> Deeds
-    ensures { result ≡ posts.cancel_deeds parts.now (option_map (λ r. r.0) reached) }
+/// What the cancel of a request does is done, if it reaches one.
+pub(crate) fn cancel<A: Agent>(plan: &IndexedPlan, parts: &mut Parts<A>, reached: Option<ObjectId>)
+    requires { AreDoable plan.now (posts.cancel_deeds parts.old (option_map (λ r. r.0) reached)) parts.old }
+    ensures { parts.new ≡ do_deeds plan.now (posts.cancel_deeds parts.old (option_map (λ r. r.0) reached)) parts.old }
 {
-    match reached {
-        Some(r) => Deeds::one(cancel_at(parts.requests().place(r), r)),
-        None => Deeds::none(),
+    if let Some(r) = reached {
+        let deed = cancel_at(parts.requests().place(r), r);
+        parts.do_deed(plan, &deed);
     }
 }

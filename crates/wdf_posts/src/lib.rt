@@ -18,4 +18,4 @@ mod planned;
 mod table;
 
 pub use fitting::post_fits;
-pub use table::{due_of, may_post, post_answer, post_deeds};
+pub use table::{due_of, may_post, post_answer, take_post};

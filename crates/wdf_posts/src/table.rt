@@ -1,15 +1,17 @@
 //! Which post is due for an agent, what a post answers, and what it does.
-ghost use Rattle.std.specs.Prelude.{◌≡◌, ◌+◌, ◌<◌, ◌^◌, Some};
+ghost use Rattle.std.specs.Prelude.{◌≡◌, ◌+◌, ◌<◌, ◌^◌, ◌∷◌, [], Some};
 ghost use Rattle.wdf_base.specs.Same as same;
 ghost use Rattle.wdf_model.specs.Tables.{entry};
+ghost use Rattle.wdf_model.specs.rules.Deeds.{do_deeds};
 ghost use Rattle.wdf_model.specs.rules.Posts as posts;
+ghost use Rattle.wdf_model.specs.rules.Room.{AreDoable};
 
-use crate::arrivals::{arrival_answer, arrival_deeds};
-use crate::cancels::{cancel_deeds, cancel_reaches};
+use crate::arrivals::{arrival, arrival_answer};
+use crate::cancels::{cancel, cancel_reaches};
 use crate::fitting::post_fits;
-use wdf_base::{Agent, Handle, Post, RequestForm};
+use wdf_base::{Agent, Ask, Handle, ObjectId, Post, RequestForm, Status};
 use wdf_model::Deed;
-use wdf_parts::{Deeds, Parts};
+use wdf_parts::Parts;
 use wdf_plan_index::IndexedPlan;
 use wdf_same::{same_option_handle, same_post};
 
@@ -34,44 +36,51 @@ pub fn post_answer<A: Agent>(
     }
 }
 
-/// What a post does: a request arrives or is cancelled, a sequence begins, or a target is done with a
+/// A sequence of a device begins.
+fn ask<A: Agent>(plan: &IndexedPlan, parts: &mut Parts<A>, device: ObjectId, ask: Ask)
+    requires { AreDoable plan.now (Deed.AskDevice device ask ∷ []) parts.old }
+    ensures { parts.new ≡ do_deeds plan.now (Deed.AskDevice device ask ∷ []) parts.old }
+{
+    parts.do_deed(plan, &Deed::AskDevice { device, ask });
+}
+
+/// A target is done with a request.
+fn finish<A: Agent>(plan: &IndexedPlan, parts: &mut Parts<A>, request: ObjectId, status: Status)
+    requires { AreDoable plan.now (Deed.FinishSending request status ∷ []) parts.old }
+    ensures { parts.new ≡ do_deeds plan.now (Deed.FinishSending request status ∷ []) parts.old }
+{
+    parts.do_deed(plan, &Deed::FinishSending { request, status });
+}
+
+/// What a post does is done: a request arrives or is cancelled, a sequence begins, or a target is done with a
 /// request. What a device does is its agent's. An arrival has the next number of its agent.
-pub fn post_deeds<A: Agent>(plan: &IndexedPlan, parts: &Parts<A>, agent: u16, post: &Post) -> Deeds
-    requires { entry 0 parts.now.arrivals agent + 1 < 2 ^ 32 }
-    ensures { result ≡ posts.post_deeds plan.now parts.now agent post.now }
+pub fn take_post<A: Agent>(plan: &IndexedPlan, parts: &mut Parts<A>, agent: u16, post: &Post)
+    requires number { entry 0 parts.old.arrivals agent + 1 < 2 ^ 32 }
+    requires doable { AreDoable plan.now (posts.post_deeds plan.now parts.old agent post.now) parts.old }
+    ensures { parts.new ≡ do_deeds plan.now (posts.post_deeds plan.now parts.old agent post.now) parts.old }
 {
     match *post {
         Post::Read { device, length } => {
-            arrival_deeds(plan, parts, agent, RequestForm::Read, length, 0, device.id)
+            arrival(plan, parts, agent, RequestForm::Read, length, 0, device.id)
         }
         Post::Write { device, length } => {
-            arrival_deeds(plan, parts, agent, RequestForm::Write, length, 0, device.id)
+            arrival(plan, parts, agent, RequestForm::Write, length, 0, device.id)
         }
         Post::Control {
             device,
             code,
             length,
         } => {
-            arrival_deeds(
-                plan,
-                parts,
-                agent,
-                RequestForm::Control,
-                length,
-                code,
-                device.id,
-            )
+            let form = RequestForm::Control;
+            arrival(plan, parts, agent, form, length, code, device.id)
         }
-        Post::Cancel { arrival } => cancel_deeds(parts, cancel_reaches(parts, agent, arrival)),
-        Post::Ask { ask, device } => Deeds::one(Deed::AskDevice {
-            device: device.id,
-            ask,
-        }),
-        Post::Act { .. } => Deeds::none(),
-        Post::Done { request, status } => Deeds::one(Deed::FinishSending {
-            request: request.id,
-            status,
-        }),
+        Post::Cancel { arrival } => {
+            let reached = cancel_reaches(parts, agent, arrival);
+            cancel(plan, parts, reached);
+        }
+        Post::Ask { ask: asked, device } => ask(plan, parts, device.id, asked),
+        Post::Act { .. } => {}
+        Post::Done { request, status } => finish(plan, parts, request.id, status),
     }
 }
 

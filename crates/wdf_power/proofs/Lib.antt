@@ -4,3 +4,4 @@ pub mod Walking
 pub mod Least
 pub mod Listing
 pub mod Low
+pub mod ForQueues

@@ -24,7 +24,7 @@ count_alike p q same (x ∷ xs) =
     omega arith
 
 -- the ids whose entries pass are as many as the entries that pass
-count_ids : {T : Type 0} (p : T → Bool) (blank : T) (xs : List T) (f : ℕ → T) (from : ℕ) → ((k : ℕ) → f (from + k) ≡ entry blank xs k)
+pub count_ids : {T : Type 0} (p : T → Bool) (blank : T) (xs : List T) (f : ℕ → T) (from : ℕ) → ((k : ℕ) → f (from + k) ≡ entry blank xs k)
     → count_by (λ r. p (f r)) (range_with_len from (length xs)) ≡ count_by p xs
 count_ids p blank [] f from h = refl
 count_ids p blank (x ∷ xs) f from h =

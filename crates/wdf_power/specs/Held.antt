@@ -1,5 +1,5 @@
 -- What the code keeps of how far the requests have come, what holds of it, and what the lists say of it.
-use Rattle.std.specs.Prelude.{◌≡◌, ℕ, ◌≤◌, List, [], length, vec_capacity}
+use Rattle.std.specs.Prelude.{◌≡◌, ℕ, ◌≤◌, List, [], is_some, length, vec_capacity}
 use Rattle.wdf_model.specs.declared.room.TheConstants.{OBJECTS}
 use Rattle.wdf_model.specs.declared.entries.QueuePower.{QueuePower}
 use Rattle.wdf_model.specs.declared.entries.Holding.{Holding}
@@ -8,6 +8,7 @@ use Rattle.wdf_model.specs.parts.Power.{Power, no_holding}
 use Rattle.wdf_maps.specs.Counts.{AreCounted}
 use Rattle.wdf_ilist.specs.Family.{is_on, list_at}
 use Rattle.wdf_power.specs.declared.holdings.Holdings.TheInside.{Inside}
+use Rattle.wdf_power.specs.ForQueues.{IsSetOf, resuming_queue, unasked_queue}
 use Rattle.wdf_power.specs.Power.{due_at, held_list, is_list, resume_of, unsettled_at}
 
 -- how far the requests have come
@@ -21,6 +22,10 @@ pub record IsSound (a : Inside) : Type 0 where
   pub unsettled : AreCounted (unsettled_at a.queues.items) a.all.items a.unsettled
   pub due : AreCounted (due_at a.queues.items) a.all.items a.due
   pub resumes : AreCounted resume_of a.all.items a.resumes
+  pub unasked : AreCounted unasked_queue a.all.items a.unasked
+  pub unasked_ids : IsSetOf (λ (h : Holding). is_some (unasked_queue h)) a.all.items a.unasked_ids
+  pub resuming : AreCounted resuming_queue a.all.items a.resuming
+  pub resuming_ids : IsSetOf (λ (h : Holding). h.resume_due) a.all.items a.resuming_ids
 
 -- The lists have the requests that are held, by device.
 pub record AreListed (queues : List QueuePower) (all : List Holding) (lists : List (List ℕ)) : Type 0 where

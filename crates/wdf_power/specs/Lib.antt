@@ -1,3 +1,4 @@
 pub mod Power
 pub mod Held
 pub mod Kept
+pub mod ForQueues

@@ -1,9 +1,10 @@
-ghost use Rattle.std.specs.Prelude.{◌≡◌, ◌+◌, ◌<◌, ◌≤◌, IfOk, IfSome, Some, count_by, if◌then◌else◌, length, map, option_map};
+ghost use Rattle.std.specs.Prelude.{◌≡◌, ◌+◌, ◌<◌, ◌≤◌, IfOk, IfSome, Some, count_by, find, if◌then◌else◌, is_some, length, map, nat_le, option_map, slice_get};
 ghost use Rattle.std.specs.List.{list_any};
 ghost use Rattle.wdf_maps.specs.Counts.{is_at};
 ghost use Rattle.wdf_model.specs.Tables.{entry, least, lesser, put};
 ghost use Rattle.wdf_model.specs.parts.Power as power;
 ghost use Rattle.wdf_power.specs.Held.{AreListed};
+ghost use Rattle.wdf_power.specs.ForQueues.{resuming, resuming_from, resuming_queue, unasked, unasked_from, unasked_queue};
 ghost use Rattle.wdf_power.specs.Power.{device_list, due_at, held_list, opening_holdings, resume_of, unsettled_at};
 
 use crate::opening::{opening_queues, write_queues};
@@ -13,6 +14,7 @@ use wdf_base::{Memory, ObjectId, Plan};
 use wdf_ilist::Links;
 use wdf_maps::{Counts, entry_at, lesser_if, put_at};
 use wdf_model::{Holding, OBJECTS, QueuePower};
+use wdf_sets::IdSet;
 
 /// Of a queue that there isn't.
 const NO_QUEUE_POWER: QueuePower = QueuePower {
@@ -43,6 +45,14 @@ pub(crate) struct Holdings {
     due: Counts,
     /// For how many requests a resume is due in all, counted at the id 0.
     resumes: Counts,
+    /// How many requests are held from each queue and weren't asked to stop.
+    unasked: Counts,
+    /// Those that are held and weren't asked to stop.
+    unasked_ids: IdSet,
+    /// For how many requests that are held from each queue a resume is due.
+    resuming: Counts,
+    /// Those for which a resume is due.
+    resuming_ids: IdSet,
 }
 
 impl Model for Holdings {
@@ -97,6 +107,35 @@ fn resume_of(holding: &Holding) -> Option<ObjectId>
     }
 }
 
+/// The queue that a request is held from, where it wasn't asked to stop.
+fn unasked_queue(holding: &Holding) -> Option<ObjectId>
+    ensures { result ≡ unasked_queue holding.now }
+{
+    if is_held(holding) && !holding.stop_asked {
+        Some(holding.queue)
+    } else {
+        None
+    }
+}
+
+/// The queue that a request is held from, where a resume is due for it.
+fn resuming_queue(holding: &Holding) -> Option<ObjectId>
+    ensures { result ≡ resuming_queue holding.now }
+{
+    if holding.resume_due {
+        Some(holding.queue)
+    } else {
+        None
+    }
+}
+
+/// Whether a request is held and wasn't asked to stop.
+fn is_unasked(holding: &Holding) -> bool
+    ensures { result ≡ is_some (unasked_queue holding.now) }
+{
+    is_held(holding) && !holding.stop_asked
+}
+
 /// Whether a resume is due for some request of a device, by a look at all of them.
 fn some_due(queues: &[QueuePower], holdings: &[Holding], d: ObjectId) -> bool
     ensures { result ≡ list_any (λ h. is_at d.0 (due_at queues.now h)) holdings.now }
@@ -114,6 +153,28 @@ fn count_unsettled(queues: &[QueuePower], holdings: &[Holding], d: ObjectId) -> 
     holdings
         .iter()
         .filter(|holding| is_at(d, unsettled_at(queues, holding)))
+        .count()
+}
+
+/// How many requests are held from a queue and weren't asked to stop, by a look at all of them.
+fn count_unasked(holdings: &[Holding], q: ObjectId) -> usize
+    ensures value { result ≡ count_by (λ h. is_at q.0 (unasked_queue h)) holdings.now }
+    ensures small { result ≤ length holdings.now }
+{
+    holdings
+        .iter()
+        .filter(|holding| is_at(q, unasked_queue(holding)))
+        .count()
+}
+
+/// For how many requests that are held from a queue a resume is due, by a look at all of them.
+fn count_resuming(holdings: &[Holding], q: ObjectId) -> usize
+    ensures value { result ≡ count_by (λ h. is_at q.0 (resuming_queue h)) holdings.now }
+    ensures small { result ≤ length holdings.now }
+{
+    holdings
+        .iter()
+        .filter(|holding| is_at(q, resuming_queue(holding)))
         .count()
 }
 
@@ -143,6 +204,10 @@ impl Holdings {
             unsettled: Counts::make(alloc)?,
             due: Counts::make(alloc)?,
             resumes: Counts::make(alloc)?,
+            unasked: Counts::make(alloc)?,
+            unasked_ids: IdSet::make(alloc, OBJECTS)?,
+            resuming: Counts::make(alloc)?,
+            resuming_ids: IdSet::make(alloc, OBJECTS)?,
         })
     }
 
@@ -156,6 +221,10 @@ impl Holdings {
         self.unsettled.clear();
         self.due.clear();
         self.resumes.clear();
+        self.unasked.clear();
+        self.unasked_ids.clear();
+        self.resuming.clear();
+        self.resuming_ids.clear();
     }
 
     /// How far a request has come.
@@ -189,6 +258,11 @@ impl Holdings {
         self.due
             .moves(due_at(&self.queues, &old), due_at(&self.queues, &new));
         self.resumes.moves(resume_of(&old), resume_of(&new));
+        self.unasked.moves(unasked_queue(&old), unasked_queue(&new));
+        self.unasked_ids.put(r.0, is_unasked(&new));
+        self.resuming
+            .moves(resuming_queue(&old), resuming_queue(&new));
+        self.resuming_ids.put(r.0, new.resume_due);
         put_at(&mut self.all, NO_HOLDING, r.0, new);
     }
 
@@ -220,6 +294,70 @@ impl Holdings {
         ensures { result ≡ list_any (λ h. h.resume_due) self.now.holdings }
     {
         0 < self.resumes.of(ObjectId(0))
+    }
+
+    /// How many requests are held from a queue and weren't asked to stop.
+    pub(crate) fn unasked_from_len(&self, q: ObjectId) -> u32
+        ensures { result ≡ length (unasked_from self.now q.0) }
+    {
+        if q.0 < OBJECTS {
+            self.unasked.of(q)
+        } else {
+            count_unasked(&self.all, q) as u32
+        }
+    }
+
+    /// How many requests are held from whatever queue and weren't asked to stop.
+    pub(crate) fn unasked_len(&self) -> u32
+        ensures { result ≡ length (unasked self.now) }
+    {
+        self.unasked_ids.len()
+    }
+
+    /// The k-th of them, by rising id from 0; `None` exactly where there are fewer.
+    pub(crate) fn unasked_at(&self, k: u32) -> Option<u32>
+        ensures { result ≡ slice_get (unasked self.now) k }
+    {
+        self.unasked_ids.at(k)
+    }
+
+    /// The first of them from an id on.
+    pub(crate) fn next_unasked(&self, from: u32) -> Option<u32>
+        ensures { result ≡ find (nat_le from) (unasked self.now) }
+    {
+        self.unasked_ids.from(from)
+    }
+
+    /// For how many requests that are held from a queue a resume is due.
+    pub(crate) fn resuming_from_len(&self, q: ObjectId) -> u32
+        ensures { result ≡ length (resuming_from self.now q.0) }
+    {
+        if q.0 < OBJECTS {
+            self.resuming.of(q)
+        } else {
+            count_resuming(&self.all, q) as u32
+        }
+    }
+
+    /// For how many requests a resume is due.
+    pub(crate) fn resuming_len(&self) -> u32
+        ensures { result ≡ length (resuming self.now) }
+    {
+        self.resuming_ids.len()
+    }
+
+    /// The k-th of them, by rising id from 0; `None` exactly where there are fewer.
+    pub(crate) fn resuming_at(&self, k: u32) -> Option<u32>
+        ensures { result ≡ slice_get (resuming self.now) k }
+    {
+        self.resuming_ids.at(k)
+    }
+
+    /// The first of them from an id on.
+    pub(crate) fn next_resuming(&self, from: u32) -> Option<u32>
+        ensures { result ≡ find (nat_le from) (resuming self.now) }
+    {
+        self.resuming_ids.from(from)
     }
 
     /// Whether a request is held from a power-managed queue of a device, and isn't acknowledged.

@@ -1,8 +1,9 @@
-ghost use Rattle.std.specs.Prelude.{◌≡◌, ◌+◌, ◌<◌, IfOk, IfSome, length, option_map};
+ghost use Rattle.std.specs.Prelude.{◌≡◌, ◌+◌, ◌<◌, IfOk, IfSome, find, length, nat_le, option_map, slice_get};
 ghost use Rattle.std.specs.List.{list_any};
 ghost use Rattle.wdf_model.specs.Tables.{least, put};
 ghost use Rattle.wdf_model.specs.parts.Power as power;
 ghost use Rattle.wdf_power.specs.Power.{IsMoved};
+ghost use Rattle.wdf_power.specs.ForQueues.{resuming, resuming_from, unasked, unasked_from};
 
 use crate::holdings::{Holdings, NO_HOLDING, is_held};
 use crate::opening::{opening_devices, write_devices};
@@ -10,7 +11,7 @@ use std::alloc::Global;
 use std::marker::Model;
 use wdf_base::{Memory, ObjectId, Plan, Stage, Step};
 use wdf_ilist::Links;
-use wdf_maps::entry_at;
+use wdf_maps::{entry_at, object_at};
 use wdf_model::{DevicePower, Holding, OBJECTS};
 
 /// Of a device that there isn't.
@@ -225,6 +226,62 @@ impl Power {
         ensures { option_map (λ r. r.0) result ≡ least (power.unsettled self.now d.0) }
     {
         self.holdings.least_unsettled(&self.held, d).map(ObjectId)
+    }
+
+    /// How many requests are held from a queue and weren't asked to stop.
+    pub fn unasked_from_len(&self, q: ObjectId) -> u32
+        ensures { result ≡ length (unasked_from self.now q.0) }
+    {
+        self.holdings.unasked_from_len(q)
+    }
+
+    /// How many requests are held from whatever queue and weren't asked to stop.
+    pub fn unasked_len(&self) -> u32
+        ensures { result ≡ length (unasked self.now) }
+    {
+        self.holdings.unasked_len()
+    }
+
+    /// The k-th of them, by rising id from 0; `None` exactly where there are fewer.
+    pub fn unasked_at(&self, k: u32) -> Option<ObjectId>
+        ensures { option_map (λ r. r.0) result ≡ slice_get (unasked self.now) k }
+    {
+        object_at(self.holdings.unasked_at(k))
+    }
+
+    /// The first of them from an id on.
+    pub fn next_unasked(&self, from: ObjectId) -> Option<ObjectId>
+        ensures { option_map (λ r. r.0) result ≡ find (nat_le from.0) (unasked self.now) }
+    {
+        object_at(self.holdings.next_unasked(from.0))
+    }
+
+    /// For how many requests that are held from a queue a resume is due.
+    pub fn resuming_from_len(&self, q: ObjectId) -> u32
+        ensures { result ≡ length (resuming_from self.now q.0) }
+    {
+        self.holdings.resuming_from_len(q)
+    }
+
+    /// For how many requests a resume is due, of whatever queue.
+    pub fn resuming_len(&self) -> u32
+        ensures { result ≡ length (resuming self.now) }
+    {
+        self.holdings.resuming_len()
+    }
+
+    /// The k-th of them, by rising id from 0; `None` exactly where there are fewer.
+    pub fn resuming_at(&self, k: u32) -> Option<ObjectId>
+        ensures { option_map (λ r. r.0) result ≡ slice_get (resuming self.now) k }
+    {
+        object_at(self.holdings.resuming_at(k))
+    }
+
+    /// The first of them from an id on.
+    pub fn next_resuming(&self, from: ObjectId) -> Option<ObjectId>
+        ensures { option_map (λ r. r.0) result ≡ find (nat_le from.0) (resuming self.now) }
+    {
+        object_at(self.holdings.next_resuming(from.0))
     }
 
     /// Whether a resume is due for some request of a device. (KMDF: EvtIoResume)

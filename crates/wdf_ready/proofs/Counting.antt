@@ -8,10 +8,10 @@ use Rattle.wdf_base.specs.declared.plan.Plan.{Plan}
 use Rattle.wdf_model.specs.declared.enums.Group.{Group}
 use Rattle.wdf_model.specs.State.{State}
 use Rattle.wdf_ready.specs.Counts.{IsCountedTo, IsKept, is_stale}
-use Rattle.wdf_ready.specs.Search.{offered_len}
+use Rattle.wdf_offers.specs.Search.{offered_len}
 use Rattle.wdf_ready.specs.declared.stale.Stale.{Stale}
 use Rattle.wdf_ready.specs.declared.stale.Stale.TheVariants as stale
-use Rattle.wdf_ready.proofs.Passing.{index_there}
+use Rattle.wdf_offers.proofs.Passing.{index_there}
 
 -- what is written at a place
 read_written : (each : List ℕ) (at i n : ℕ) (b : Bool) → (i == at) ≡ b → at < length each → get_or each i 0 ≤ 2 ^ 32 → n ≤ 2 ^ 32 → get_or (slice_set each at n) i 0 ≤ 2 ^ 32

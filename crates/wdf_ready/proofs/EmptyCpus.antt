@@ -27,8 +27,8 @@ use Rattle.wdf_model.specs.rules.Groups.{RANKS, callback_for, handler_start, if_
 use Rattle.wdf_model.specs.rules.Starts.{is_ready_for, level_fits, life_fits, may_start}
 use Rattle.wdf_model.specs.rules.Steps.{is_cpu, is_proper_if_any, may}
 use Rattle.wdf_ready.specs.Alike.{AreAlike, is_shared}
-use Rattle.wdf_ready.specs.Search.{if_allowed, offered, offered_len}
-use Rattle.wdf_ready.proofs.NotOffered.{empty_is_low}
+use Rattle.wdf_offers.specs.Search.{if_allowed, offered, offered_len}
+use Rattle.wdf_offers.proofs.NotOffered.{empty_is_low}
 
 -- ---- lists
 

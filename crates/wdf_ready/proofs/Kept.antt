@@ -11,8 +11,8 @@ use Rattle.wdf_model.specs.declared.enums.Group.TheVariants as group
 use Rattle.wdf_model.specs.State.{State}
 use Rattle.wdf_model.specs.Plans.{declares}
 use Rattle.wdf_model.specs.rules.Groups.{callback_for, places_if, places_in}
-use Rattle.wdf_ready.specs.Search.{can_start_for, events_of, has_places, offered, offered_from}
-use Rattle.wdf_ready.proofs.Places.{all_passed, past}
+use Rattle.wdf_offers.specs.Search.{can_start_for, events_of, has_places, offered, offered_from}
+use Rattle.wdf_offers.proofs.Places.{all_passed, past}
 use Rattle.wdf_ready.proofs.Undeclared.{never_completes, never_starts}
 
 -- ---- the loop

@@ -42,9 +42,9 @@ use Rattle.wdf_model.specs.rules.Posts.{due_of}
 use Rattle.wdf_model.specs.rules.Script.{intent_of}
 use Rattle.wdf_model.specs.rules.Steps.{event_of_frame, event_of_top, fault_event, intent_event, may, spends, view_of}
 use Rattle.wdf_ready.specs.Actors.{actor_of}
-use Rattle.wdf_ready.specs.Search.{events_of, offered, offered_from}
+use Rattle.wdf_offers.specs.Search.{events_of, offered, offered_from}
 use Rattle.wdf_ready.specs.Sides.{is_of, same_side, side_of, side_of_group}
-use Rattle.wdf_ready.proofs.Passing.{drops_all, group_opens}
+use Rattle.wdf_offers.proofs.Passing.{drops_all, group_opens}
 use Rattle.wdf_ready.specs.declared.sides.Side.{Side}
 use Rattle.wdf_ready.specs.declared.sides.Side.TheVariants as side
 

@@ -37,9 +37,9 @@ use Rattle.wdf_model.specs.parts.Targets.{the_target}
 use Rattle.wdf_model.specs.parts.Tree.{kind_of}
 use Rattle.wdf_model.specs.rules.Groups.{handler_start, start_of_step, starts, starts_for}
 use Rattle.wdf_model.specs.rules.Starts.{is_ready_for, level_fits, life_fits, rank_ready}
-use Rattle.wdf_ready.specs.Search.{can_start, if_allowed, offered, starts_by}
-use Rattle.wdf_ready.proofs.NotOffered.{handler_ranked, not_mapped, not_ready, not_started, not_there}
-use Rattle.wdf_ready.proofs.Passing.{none_at}
+use Rattle.wdf_offers.specs.Search.{can_start, if_allowed, offered, starts_by}
+use Rattle.wdf_offers.proofs.NotOffered.{handler_ranked, not_mapped, not_ready, not_started, not_there}
+use Rattle.wdf_offers.proofs.Passing.{none_at}
 
 -- ---- no script is that of the callback
 

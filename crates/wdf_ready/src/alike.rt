@@ -1,11 +1,11 @@
 //! Groups that offer as many events as the same group of the processor before, since both processors are empty. (own)
 ghost use Rattle.std.specs.Prelude.{◌≡◌, ◌<◌, true, IsTrue};
 ghost use Rattle.wdf_ready.specs.Alike.{AreAlike, is_shared};
-ghost use Rattle.wdf_ready.specs.Search as search;
+ghost use Rattle.wdf_offers.specs.Search as search;
 
-use crate::started::is_cpu;
 use wdf_base::{Agent, Cpu, Rank};
 use wdf_model::Group;
+use wdf_offers::is_cpu;
 use wdf_parts::Parts;
 use wdf_plan_index::IndexedPlan;
 

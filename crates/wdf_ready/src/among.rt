@@ -7,9 +7,8 @@ ghost use Rattle.law_machine_places.specs.Placed as placed;
 ghost use Rattle.law_machine_places.specs.Placed.{IsAmong};
 ghost use Rattle.wdf_model.specs.rules.Ready.{allowed};
 
-use crate::candidates::{declared_end, places_for, places_of_rank};
-use crate::started::is_cpu;
 use wdf_base::{Agent, Callback, Event, Handle, ObjectId, Rank, Step, same_callback};
+use wdf_offers::{declared_end, is_cpu, places_for, places_of_rank};
 use wdf_parts::Parts;
 use wdf_plan_index::IndexedPlan;
 use wdf_steps::may;

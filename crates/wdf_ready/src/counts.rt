@@ -1,8 +1,8 @@
 //! How many events may come of each group, kept from event to event. What may have changed is counted anew when it is asked for.
 ghost use Rattle.std.specs.Prelude.{◌≡◌, ◌+◌, ◌<◌, ◌≤◌, ◌^◌, false, IfOk, length, slice_get, Some, MatchResult};
 ghost use Rattle.wdf_ready.specs.Counts.{IsCountedTo, IsKept, Unknown, is_stale, stale_after};
-ghost use Rattle.wdf_ready.specs.Leaving.{IsSettled};
-ghost use Rattle.wdf_ready.specs.Search as search;
+ghost use Rattle.wdf_offers.specs.Leaving.{IsSettled};
+ghost use Rattle.wdf_offers.specs.Search as search;
 ghost use Rattle.wdf_ready.specs.declared.stale.Stale.TheVariants as kinds;
 
 use crate::alike::{offer_alike, step_between};

@@ -6,8 +6,8 @@ ghost use Rattle.wdf_model.specs.parts.Pnp as pnp;
 ghost use Rattle.wdf_model.specs.rules.Posts as posts;
 ghost use Rattle.wdf_model.specs.rules.Ready as ready;
 
-use crate::candidates::declared_end;
 use wdf_base::{Agent, ObjectId, Post};
+use wdf_offers::declared_end;
 use wdf_parts::Parts;
 use wdf_plan_index::IndexedPlan;
 use wdf_posts::due_of;

@@ -3,12 +3,12 @@ ghost use Rattle.std.specs.Prelude.{◌≡◌, ◌∷◌, ◌++◌, [], IfOk, On
 ghost use Rattle.std.specs.List.{flat_map, range_with_len};
 ghost use Rattle.wdf_model.specs.rules.Groups as groups;
 ghost use Rattle.wdf_model.specs.Plans as plans;
-ghost use Rattle.wdf_ready.specs.Search as search;
+ghost use Rattle.wdf_offers.specs.Search as search;
 
-use crate::candidates::callback_for;
 use std::alloc::Global;
 use wdf_base::{Callback, Memory, ObjectId, Rank};
 use wdf_model::Group;
+use wdf_offers::callback_for;
 use wdf_plan_index::IndexedPlan;
 
 /// The ranks of callbacks, in the order of their starts. (own)

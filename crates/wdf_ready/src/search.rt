@@ -3,20 +3,19 @@ ghost use Rattle.std.specs.Prelude.{◌≡◌, ◌+◌, ◌<◌, ◌≤◌, ◌^
 ghost use Rattle.wdf_model.specs.declared.enums.Group.TheVariants as group;
 ghost use Rattle.wdf_model.specs.rules.Groups as groups;
 ghost use Rattle.wdf_ready.specs.Actors as actors;
-ghost use Rattle.wdf_ready.specs.Idle as idle;
-ghost use Rattle.wdf_ready.specs.Leaving.{IsSettled, group_of};
-ghost use Rattle.wdf_ready.specs.Search as search;
+ghost use Rattle.wdf_offers.specs.Idle as idle;
+ghost use Rattle.wdf_offers.specs.Leaving.{IsSettled, group_of};
+ghost use Rattle.wdf_offers.specs.Search as search;
 
 use crate::actor::is_by;
-use crate::candidates::{completion_at, parks, places_in, stage_at, start_for, unparks};
-use crate::direct::{cleanup_offered, completion_offered, completions_len, end_offered, own_len};
-use crate::due::{next_due, next_startable};
-use crate::idle::is_idle;
-use crate::leaving::{Leaving, numbered_at, numbered_len};
-use crate::posts::{post_offered, posts_at, posts_len};
-use crate::started::start_offered;
 use wdf_base::{Actor, Agent, Cpu, Event, ObjectId, Rank};
 use wdf_model::Group;
+use wdf_offers::{
+    Leaving, cleanup_offered, coming_at, coming_len, completion_at, completion_offered,
+    completions_len, end_offered, herd_at, herd_len, herd_of, is_counted, is_idle, next_due,
+    next_startable, numbered_at, numbered_len, own_at, own_len, park_at, park_len, parks,
+    places_in, post_offered, posts_at, posts_len, stage_at, start_for, start_offered, unparks,
+};
 use wdf_parts::Parts;
 use wdf_plan_index::IndexedPlan;
 use wdf_steps::{may, own_event};
@@ -64,7 +63,7 @@ fn offered<A: Agent>(
 }
 
 /// The first place from one on at which a callback of a rank can start on a processor. Cleanup and destroy callbacks go
-/// by sets: what has its turn or is cleaned, and isn't an arrived request. Timers go by a tick for each 64 ids. For other
+/// by sets: what has its turn or is cleaned, and isn't an arrived request. Timers go by the set of the due ones. For other
 /// ranks each place is asked of one part.
 fn next_start<A: Agent>(
     plan: &IndexedPlan,
@@ -136,8 +135,8 @@ fn place_of(id: Option<ObjectId>) -> Option<usize>
     id.map(|id| id.0 as usize)
 }
 
-/// How many cleanups or destructions may come, or starts of work items on a processor. They are counted without a search
-/// where they are numbered.
+/// How many cleanups or destructions may come, or starts of work items or of timers on a processor. They are counted without
+/// a search where they are numbered.
 fn leaving_len<A: Agent>(plan: &IndexedPlan, parts: &Parts<A>, leaving: Leaving) -> usize
     requires agents { length parts.now.agents ≤ 2 ^ 16 }
     requires settled { IsSettled plan.now parts.now }
@@ -151,8 +150,94 @@ fn leaving_len<A: Agent>(plan: &IndexedPlan, parts: &Parts<A>, leaving: Leaving)
     }
 }
 
+/// How many parked frames may come back to a processor. They are counted by locks where each waits for one.
+fn unparks_len<A: Agent>(plan: &IndexedPlan, parts: &Parts<A>, cpu: u8) -> usize
+    requires agents { length parts.now.agents ≤ 2 ^ 16 }
+    ensures length { result ≡ length (search.offered_from plan.now A.meaning parts.now (group.Unparks cpu) 0) }
+    ensures small { result ≤ 2 ^ 32 }
+{
+    if is_counted(plan, parts, Cpu(cpu)) {
+        coming_len(plan, parts, Cpu(cpu))
+    } else {
+        searched_len(plan, parts, Group::Unparks { cpu })
+    }
+}
+
+/// The k-th of the parked frames that may come back to a processor, or how many places of a list are left after them.
+/// It isn't searched for where all may, nor where there are fewer.
+fn unparks_at<A: Agent>(
+    plan: &IndexedPlan,
+    parts: &Parts<A>,
+    cpu: u8,
+    k: usize,
+) -> Result<Event, usize>
+    requires agents { length parts.now.agents ≤ 2 ^ 16 }
+    ensures { MatchResult result (λ event. slice_get (search.offered_from plan.now A.meaning parts.now (group.Unparks cpu) 0) k ≡ Some event)
+        (λ rest. length (search.offered_from plan.now A.meaning parts.now (group.Unparks cpu) 0) + rest ≡ k) }
+{
+    if parts.cpus().parked_len() == 0 {
+        return Err(k);
+    }
+    if !is_counted(plan, parts, Cpu(cpu)) {
+        return searched_at(plan, parts, Group::Unparks { cpu }, k);
+    }
+    let len = coming_len(plan, parts, Cpu(cpu));
+    if k >= len {
+        return Err(k - len);
+    }
+    if len == parts.cpus().parked_len() {
+        coming_at(plan, parts, Cpu(cpu), k)
+    } else {
+        searched_at(plan, parts, Group::Unparks { cpu }, k)
+    }
+}
+
+/// How many starts of a rank may come on a processor for the requests of an object. They are counted without a search where
+/// just those may come that are counted for it.
+fn starts_for_len<A: Agent>(
+    plan: &IndexedPlan,
+    parts: &Parts<A>,
+    cpu: u8,
+    rank: Rank,
+    object: u32,
+) -> usize
+    requires agents { length parts.now.agents ≤ 2 ^ 16 }
+    requires settled { IsSettled plan.now parts.now }
+    ensures length { result ≡ length (search.offered_from plan.now A.meaning parts.now (group.StartsFor cpu rank object) 0) }
+    ensures small { result ≤ 2 ^ 32 }
+{
+    if let Some(herd) = herd_of(rank) {
+        if herd.is_exact(plan, parts, ObjectId(object)) {
+            return herd_len(plan, parts, herd, Cpu(cpu), ObjectId(object));
+        }
+    }
+    searched_len(plan, parts, Group::StartsFor { cpu, rank, object })
+}
+
+/// The k-th of them, or how many places of a list are left after them.
+fn starts_for_at<A: Agent>(
+    plan: &IndexedPlan,
+    parts: &Parts<A>,
+    cpu: u8,
+    rank: Rank,
+    object: u32,
+    k: usize,
+) -> Result<Event, usize>
+    requires agents { length parts.now.agents ≤ 2 ^ 16 }
+    requires settled { IsSettled plan.now parts.now }
+    ensures { MatchResult result (λ event. slice_get (search.offered_from plan.now A.meaning parts.now (group.StartsFor cpu rank object) 0) k ≡ Some event)
+        (λ rest. length (search.offered_from plan.now A.meaning parts.now (group.StartsFor cpu rank object) 0) + rest ≡ k) }
+{
+    if let Some(herd) = herd_of(rank) {
+        if herd.is_exact(plan, parts, ObjectId(object)) {
+            return herd_at(plan, parts, herd, Cpu(cpu), ObjectId(object), k);
+        }
+    }
+    searched_at(plan, parts, Group::StartsFor { cpu, rank, object }, k)
+}
+
 /// How many events may come of a group's places. Completions are counted without a search, and so are cleanups,
-/// destructions and starts of work items where they are numbered. Posts are counted without making their events.
+/// destructions and starts of work items and of timers where they are numbered. Posts are counted without making their events.
 pub(crate) fn offered_len<A: Agent>(plan: &IndexedPlan, parts: &Parts<A>, group: Group) -> usize
     requires agents { length parts.now.agents ≤ 2 ^ 16 }
     requires settled { IsSettled plan.now parts.now }
@@ -161,6 +246,8 @@ pub(crate) fn offered_len<A: Agent>(plan: &IndexedPlan, parts: &Parts<A>, group:
 {
     match group {
         Group::OwnEvent { cpu } => own_len(plan, parts, Cpu(cpu)),
+        Group::Parks { cpu } => park_len(plan, parts, Cpu(cpu)),
+        Group::Unparks { cpu } => unparks_len(plan, parts, cpu),
         Group::Completions => completions_len(plan, parts),
         Group::Cleanups => leaving_len(plan, parts, Leaving::Cleanup),
         Group::Destroys => leaving_len(plan, parts, Leaving::Destroy),
@@ -168,6 +255,11 @@ pub(crate) fn offered_len<A: Agent>(plan: &IndexedPlan, parts: &Parts<A>, group:
             cpu,
             rank: Rank::Work,
         } => leaving_len(plan, parts, Leaving::Work { cpu }),
+        Group::Starts {
+            cpu,
+            rank: Rank::Timed,
+        } => leaving_len(plan, parts, Leaving::Timed { cpu }),
+        Group::StartsFor { cpu, rank, object } => { starts_for_len(plan, parts, cpu, rank, object) }
         Group::Posts => posts_len(plan, parts),
         _ => searched_len(plan, parts, group),
     }
@@ -191,8 +283,8 @@ fn searched_len<A: Agent>(plan: &IndexedPlan, parts: &Parts<A>, group: Group) ->
     count
 }
 
-/// The k-th of the cleanups or destructions that may come, or of the starts of work items on a processor, or how many
-/// places of a list are left after them.
+/// The k-th of the cleanups or destructions that may come, or of the starts of work items or of timers on a processor, or
+/// how many places of a list are left after them.
 fn leaving_at<A: Agent>(
     plan: &IndexedPlan,
     parts: &Parts<A>,
@@ -225,6 +317,9 @@ pub(crate) fn offered_at<A: Agent>(
         (λ rest. length (search.offered_from plan.now A.meaning parts.now group 0) + rest ≡ k) }
 {
     match group {
+        Group::OwnEvent { cpu } => own_at(plan, parts, Cpu(cpu), k),
+        Group::Parks { cpu } => park_at(plan, parts, Cpu(cpu), k),
+        Group::Unparks { cpu } => unparks_at(plan, parts, cpu, k),
         Group::Completions => completion_offered(plan, parts, k),
         Group::Cleanups => leaving_at(plan, parts, Leaving::Cleanup, k),
         Group::Destroys => leaving_at(plan, parts, Leaving::Destroy, k),
@@ -232,6 +327,13 @@ pub(crate) fn offered_at<A: Agent>(
             cpu,
             rank: Rank::Work,
         } => leaving_at(plan, parts, Leaving::Work { cpu }, k),
+        Group::Starts {
+            cpu,
+            rank: Rank::Timed,
+        } => leaving_at(plan, parts, Leaving::Timed { cpu }, k),
+        Group::StartsFor { cpu, rank, object } => {
+            starts_for_at(plan, parts, cpu, rank, object, k)
+        }
         Group::Posts => posts_at(plan, parts, k),
         _ => searched_at(plan, parts, group, k),
     }
@@ -248,8 +350,28 @@ fn searched_at<A: Agent>(
     ensures { MatchResult result (λ event. slice_get (search.offered_from plan.now A.meaning parts.now group 0) k ≡ Some event)
         (λ rest. length (search.offered_from plan.now A.meaning parts.now group 0) + rest ≡ k) }
 {
-    let mut left = k;
     let end = search_len(plan, parts, group);
+    if end == 0 {
+        return Err(k);
+    }
+    walked_at(plan, parts, group, end, k)
+}
+
+/// The same, where a search goes over so many places.
+fn walked_at<A: Agent>(
+    plan: &IndexedPlan,
+    parts: &Parts<A>,
+    group: Group,
+    end: usize,
+    k: usize,
+) -> Result<Event, usize>
+    requires agents { length parts.now.agents ≤ 2 ^ 16 }
+    requires all { end ≡ idle.search_len plan.now parts.now group }
+    requires few { end ≤ 2 ^ 32 }
+    ensures { MatchResult result (λ event. slice_get (search.offered_from plan.now A.meaning parts.now group 0) k ≡ Some event)
+        (λ rest. length (search.offered_from plan.now A.meaning parts.now group 0) + rest ≡ k) }
+{
+    let mut left = k;
     let mut at = 0;
     'search: while let Some(place) = next_place(plan, parts, group, at, end) {
         if let Some(event) = offered(plan, parts, group, place) {

@@ -1,7 +1,7 @@
 //! The first event of a side. All events that a group has are of one side, so the others are passed over without a search.
 ghost use Rattle.std.specs.Prelude.{◌≡◌, ◌≤◌, ◌^◌, find, length};
-ghost use Rattle.wdf_ready.specs.Leaving.{IsSettled};
-ghost use Rattle.wdf_ready.specs.Search as search;
+ghost use Rattle.wdf_offers.specs.Leaving.{IsSettled};
+ghost use Rattle.wdf_offers.specs.Search as search;
 ghost use Rattle.wdf_ready.specs.Sides.{is_of as is_event_of, same_side as is_same_side, side_of, side_of_group};
 
 use crate::actor::actor_of;

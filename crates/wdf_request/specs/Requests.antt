@@ -1,5 +1,5 @@
 -- The requests that the fields stand for, and what is kept beside them.
-use Rattle.std.specs.Prelude.{◌≡◌, ◌≤◌, count_by, length, vec_capacity}
+use Rattle.std.specs.Prelude.{◌≡◌, ◌≤◌, count_by, is_some, length, vec_capacity}
 use Rattle.wdf_base.specs.Places.{is_closing, is_due, is_sent}
 use Rattle.wdf_model.specs.declared.room.TheConstants.{OBJECTS}
 use Rattle.wdf_model.specs.declared.entries.Request.{Request}
@@ -8,7 +8,7 @@ use Rattle.wdf_model.specs.rules.Ready.{is_open_request}
 use Rattle.wdf_maps.specs.Counts.{AreCounted}
 use Rattle.wdf_request.specs.Arrivals.{IsNoted}
 use Rattle.wdf_request.specs.Closing.{IsSetOf}
-use Rattle.wdf_request.specs.Keys.{returning_queue, sent_target, unfinished_device}
+use Rattle.wdf_request.specs.Keys.{due_queue, is_due_sent, returning_queue, sent_target, unfinished_device}
 use Rattle.wdf_request.specs.declared.requests.Requests.TheInside.{Inside}
 
 abbrev pub requests_in : Inside → Requests
@@ -25,4 +25,7 @@ pub record IsSound (s : Inside) : Type 0 where
   pub closing : IsSetOf (λ (r : Request). is_closing r.place) s.all.items s.closing
   pub due : IsSetOf (λ (r : Request). is_due r.info.mark) s.all.items s.due
   pub sendings : IsSetOf (λ (r : Request). is_sent r.place) s.all.items s.sendings
+  pub returns : IsSetOf (λ (r : Request). is_some (returning_queue r.place)) s.all.items s.returns
+  pub due_held : AreCounted due_queue s.all.items s.due_held
+  pub due_sent : s.due_sent ≡ count_by is_due_sent s.all.items
   pub noted : IsNoted s.all.items s.arrivals

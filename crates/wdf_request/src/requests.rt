@@ -12,12 +12,15 @@ ghost use Rattle.wdf_sets.specs.Nexts.{IsNext, NoneFrom};
 ghost use Rattle.wdf_request.specs.Closing.{closing_requests, due_requests, is_out};
 
 mod closing;
+mod for_queues;
 
 use crate::arrivals::Arrivals;
 use crate::change::{
     NO_REQUEST, answer_of_mark, cancelled, forgotten, marked, moved, unmarked, with_mark,
 };
-use crate::keys::{open_flag, returning_queue, sent_target, unfinished_device};
+use crate::keys::{
+    due_queue, due_sent_flag, is_back, open_flag, returning_queue, sent_target, unfinished_device,
+};
 use std::alloc::Global;
 use std::marker::Model;
 use wdf_base::{Mark, Memory, ObjectId, Place, Plan, RequestInfo, Status};
@@ -47,6 +50,12 @@ pub struct Requests {
     due: IdSet,
     /// Those that are Sent.
     sendings: IdSet,
+    /// Those that are Returning to some queue.
+    returns: IdSet,
+    /// For how many that the driver has from each queue EvtRequestCancel is due.
+    due_held: Counts,
+    /// For how many that are Sent EvtRequestCancel is due.
+    due_sent: u32,
     /// Which each arrival made.
     arrivals: Arrivals,
 }
@@ -78,6 +87,9 @@ impl Requests {
             closing: IdSet::make(alloc, OBJECTS)?,
             due: IdSet::make(alloc, OBJECTS)?,
             sendings: IdSet::make(alloc, OBJECTS)?,
+            returns: IdSet::make(alloc, OBJECTS)?,
+            due_held: Counts::make(alloc)?,
+            due_sent: 0,
             arrivals: Arrivals::make(alloc, plan)?,
         })
     }
@@ -95,6 +107,9 @@ impl Requests {
         self.closing.clear();
         self.due.clear();
         self.sendings.clear();
+        self.returns.clear();
+        self.due_held.clear();
+        self.due_sent = 0;
         self.arrivals.clear();
     }
 
@@ -283,6 +298,9 @@ impl Requests {
         self.closing.put(r.0, request.place.is_closing());
         self.due.put(r.0, request.info.mark.is_due());
         self.sendings.put(r.0, request.place.is_sent());
+        self.returns.put(r.0, is_back(request.place));
+        self.due_held.moves(due_queue(&old), due_queue(&request));
+        self.due_sent = self.due_sent + due_sent_flag(&request) - due_sent_flag(&old);
         let info = &request.info;
         self.arrivals.note(info.agent, info.arrival, r.0);
         put_at(&mut self.all, NO_REQUEST, r.0, request);

@@ -1,4 +1,5 @@
-ghost use Rattle.std.specs.Prelude.{◌≡◌};
+ghost use Rattle.std.specs.Prelude.{if◌then◌else◌, ◌≡◌, None, Some};
+ghost use Rattle.wdf_base.specs.declared.frame.Intent.TheVariants as intent;
 ghost use Rattle.wdf_model.specs.rules.Faults as faults;
 
 use crate::arguments::{any_script_error, any_stale, any_wrong_kind};
@@ -52,33 +53,37 @@ fn call_faults<V: View>(view: &V, call: &Call, fault: Fault) -> bool
     }
 }
 
-/// Whether a fault's row holds of what a frame is about to do.
-fn holds_of<V: View>(view: &V, intent: &Intent, fault: Fault) -> bool
-    ensures { result ≡ faults.holds_of (V.seen view.now) intent.now fault }
-{
-    match intent {
-        Intent::Do(call) => call_faults(view, call, fault),
-        Intent::Return(_) => {
-            matches!(fault, Fault::ReturnHoldingLock) && view.held_by_call() > 0
-        }
-        Intent::Get(register) => {
-            matches!(fault, Fault::HardwareReleased) && !view.hardware(*register)
-        }
-        Intent::Put { register, .. } => {
-            matches!(fault, Fault::HardwareReleased) && !view.hardware(*register)
-        }
-        Intent::Broken => matches!(fault, Fault::ScriptError),
-        Intent::Local { .. } | Intent::Log(_) | Intent::Spend(_) => false,
-    }
-}
-
-/// The fault of what a frame is about to do: the first row of the table that holds, none where none
-/// does. (The names are own; the rules are KMDF's, but for the script errors.)
-pub fn fault_of<V: View>(view: &V, intent: &Intent) -> Option<Fault>
-    ensures { result ≡ faults.fault_of (V.seen view.now) intent.now }
+/// The fault of a call: the first row of the table that holds, none where none does.
+fn fault_of_call<V: View>(view: &V, call: &Call) -> Option<Fault>
+    ensures { result ≡ faults.fault_of (V.seen view.now) (intent.Do call.now) }
 {
     FAULTS
         .iter()
         .copied()
-        .find(|fault| holds_of(view, intent, *fault))
+        .find(|fault| call_faults(view, call, *fault))
+}
+
+/// A fault, where it holds.
+fn fault_if(fault: Fault, holds: bool) -> Option<Fault>
+    ensures { result ≡ (if holds then Some fault else None) }
+{
+    if holds { Some(fault) } else { None }
+}
+
+/// The fault of what a frame is about to do: the first row of the table that holds, none where none
+/// does. (The names are own; the rules are KMDF's, but for the script errors.) What isn't a call has one row that
+/// can hold, or none.
+pub fn fault_of<V: View>(view: &V, intent: &Intent) -> Option<Fault>
+    ensures { result ≡ faults.fault_of (V.seen view.now) intent.now }
+{
+    match intent {
+        Intent::Do(call) => fault_of_call(view, call),
+        Intent::Return(_) => fault_if(Fault::ReturnHoldingLock, view.held_by_call() > 0),
+        Intent::Get(register) => fault_if(Fault::HardwareReleased, !view.hardware(*register)),
+        Intent::Put { register, .. } => {
+            fault_if(Fault::HardwareReleased, !view.hardware(*register))
+        }
+        Intent::Broken => Some(Fault::ScriptError),
+        Intent::Local { .. } | Intent::Log(_) | Intent::Spend(_) => None,
+    }
 }

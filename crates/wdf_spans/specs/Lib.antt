@@ -1,3 +1,4 @@
 pub mod Starts
 pub mod Births
 pub mod Bands
+pub mod Words

@@ -1,6 +1,7 @@
 //! The bands of a run: what holds of a device or a queue, from where to where.
 ghost use Rattle.std.specs.Prelude.{◌≡◌, ◌++◌, ◌^◌, ◌<◌, drop, length, IfOk};
 ghost use Rattle.wdf_spans.specs.Bands.{is_about, phase_by_stage, power_by_stage, delivery_by_stage, mode_by_stage, by_stage, by_start, by_end, by_call, told_by_call, told, number, turned, next, piece, pieces_of, opening, device_band, queue_band};
+ghost use Rattle.wdf_spans.specs.Words.{standing_word};
 
 use std::alloc::Global;
 use wdf_base::{Arg, Call, CallKind, Callback, Event, Memory, ObjectId, Stage, Status, Value};
@@ -38,6 +39,27 @@ pub enum Standing {
 }
 
 impl Standing {
+    /// Its word.
+    pub fn word(self) -> &'static str
+        ensures { result.now ≡ standing_word self }
+    {
+        match self {
+            Standing::Off => "off",
+            Standing::Working => "working",
+            Standing::Sleeping => "sleeping",
+            Standing::Removed => "removed",
+            Standing::Powered => "D0",
+            Standing::Unpowered => "no power",
+            Standing::QueuesUp => "queues up",
+            Standing::QueuesDown => "queues down",
+            Standing::Started => "started",
+            Standing::Stopped => "stopped",
+            Standing::Drained => "drained",
+            Standing::Purged => "purged",
+            Standing::Closed => "closed",
+        }
+    }
+
     /// The place of a standing in their list.
     fn number(self) -> u8
         ensures { result ≡ number self }

@@ -1,4 +1,7 @@
 //! What an event tells of where a request goes, as a reader of the trace has it.
+ghost use Rattle.std.specs.Prelude.{◌≡◌};
+ghost use Rattle.wdf_spans.specs.Words.{place_word};
+
 use wdf_base::{
     Arg, Call, CallKind, Callback, Declared, DispatchKind, Event, Handle, ObjectId, Plan, Post,
     QueueInfo, Status, Value,
@@ -17,6 +20,21 @@ pub enum Told {
     Returning,
     /// Completed.
     Done,
+}
+
+impl Told {
+    /// Its word.
+    pub fn word(self) -> &'static str
+        ensures { result.now ≡ place_word self }
+    {
+        match self {
+            Told::Queued => "queued",
+            Told::Owned => "owned",
+            Told::Sent => "sent",
+            Told::Returning => "returning",
+            Told::Done => "done",
+        }
+    }
 }
 
 /// The way that a request goes.

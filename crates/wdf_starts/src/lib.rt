@@ -20,11 +20,11 @@ mod sequences;
 mod settled;
 mod starts;
 
-pub use deeds::{end_deeds, new_frame, start_deeds};
+pub use deeds::{end_callback, new_frame, start_callback};
 pub use drained::is_drained;
 pub use lines::shown;
 pub use objects::{callback_over, clean_ready, destroy_ready, is_finished, is_unused};
 pub use ranks::{is_ready_for, rank_ready, rank_ready_for};
-pub use sequences::{may_pass, resumes_over, stage_deeds, stage_ready, step_of, step_ready};
+pub use sequences::{may_pass, pass_stage, resumes_over, stage_ready, step_of, step_ready};
 pub use settled::{is_quiet, is_settled};
 pub use starts::{level_fits, life_fits, may_start};

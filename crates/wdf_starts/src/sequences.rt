@@ -2,6 +2,8 @@
 ghost use Rattle.std.specs.Prelude.{◌≡◌};
 ghost use Rattle.std.specs.Option.{option_to_list};
 ghost use Rattle.wdf_base.specs.declared.plan.Plan.{Plan};
+ghost use Rattle.wdf_model.specs.rules.Deeds.{do_deeds};
+ghost use Rattle.wdf_model.specs.rules.Room.{AreDoable};
 ghost use Rattle.wdf_model.specs.rules.Starts as starts;
 
 use crate::checks::{handle_id, is_step};
@@ -9,7 +11,7 @@ use crate::drained::is_drained;
 use crate::settled::{is_quiet, is_settled};
 use wdf_base::{Agent, Callback, Handle, LockRef, ObjectId, Stage, Step};
 use wdf_model::Deed;
-use wdf_parts::{Deeds, Parts};
+use wdf_parts::Parts;
 use wdf_plan_index::IndexedPlan;
 
 /// Whether the step after `queues_up` needn't wait: no resume is due, and no EvtIoResume runs.
@@ -88,23 +90,21 @@ fn stage_effect(d: ObjectId, stage: Stage, interrupt: Option<Handle>) -> Option<
     }
 }
 
-/// What passing a stage does: the step is taken, power follows it, and the stage has its effect. (own)
-pub fn stage_deeds(
-    _plan: &IndexedPlan,
+/// What passing a stage does is done: the step is taken, power follows it, and the stage has its effect. (own)
+pub fn pass_stage<A: Agent>(
+    plan: &IndexedPlan,
+    parts: &mut Parts<A>,
     d: ObjectId,
     stage: Stage,
     interrupt: Option<Handle>,
-) -> Deeds
-    ensures { result ≡ starts.stage_deeds _plan.now d.0 stage interrupt }
+)
+    requires { AreDoable plan.now (starts.stage_deeds plan.now d.0 stage interrupt) parts.old }
+    ensures { parts.new ≡ do_deeds plan.now (starts.stage_deeds plan.now d.0 stage interrupt) parts.old }
 {
-    Deeds::three(
-        Some(Deed::TakeStep { device: d }),
-        Some(Deed::AdvancePower {
-            device: d,
-            step: Step::Pass { stage, interrupt },
-        }),
-        stage_effect(d, stage, interrupt),
-    )
+    let step = Step::Pass { stage, interrupt };
+    parts.do_deed(plan, &Deed::TakeStep { device: d });
+    parts.do_deed(plan, &Deed::AdvancePower { device: d, step });
+    parts.do_if_any(plan, &stage_effect(d, stage, interrupt));
 }
 
 /// The interrupt of a step's callback; none where the device itself is its object.

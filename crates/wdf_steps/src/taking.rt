@@ -2,6 +2,8 @@
 ghost use Rattle.std.specs.Prelude.{◌≡◌, ℕ, ◌∷◌, ◌+◌, ◌++◌, ◌<◌, ◌^◌, []};
 ghost use Rattle.wdf_model.specs.Ids.{frame_id};
 ghost use Rattle.wdf_model.specs.Tables.{entry};
+ghost use Rattle.wdf_model.specs.declared.deed.Deed.TheVariants as Deed;
+ghost use Rattle.wdf_model.specs.rules.Calls as calls;
 ghost use Rattle.wdf_model.specs.rules.Deeds.{do_deeds};
 ghost use Rattle.wdf_model.specs.rules.Room.{AreDoable};
 ghost use Rattle.wdf_model.specs.rules.Script as script;
@@ -13,14 +15,13 @@ ghost use Rattle.wdf_steps.specs.Moves.{goes_on_with, spends_on};
 
 use crate::frames::{answered, goes_on, spending, stepped, waiting};
 use wdf_base::{Agent, Call, Cpu, Event, Frame, FrameId, Value};
-use wdf_calls::{outcome, second_deeds};
+use wdf_calls::{do_second, outcome};
 use wdf_cpu::FrameUpdate;
-use wdf_model::Deed;
 use wdf_parts::{Deeds, Parts};
 use wdf_plan_index::IndexedPlan;
-use wdf_posts::post_deeds;
+use wdf_posts::take_post;
 use wdf_script::next;
-use wdf_starts::{end_deeds, stage_deeds, start_deeds};
+use wdf_starts::{end_callback, pass_stage, start_callback};
 
 /// A frame goes on in its place.
 fn go_on<A: Agent>(plan: &IndexedPlan, parts: &mut Parts<A>, number: FrameId, update: &FrameUpdate)
@@ -31,9 +32,9 @@ fn go_on<A: Agent>(plan: &IndexedPlan, parts: &mut Parts<A>, number: FrameId, up
 }
 
 /// A frame is now this one.
-fn set_frame<A: Agent>(plan: &IndexedPlan, parts: &mut Parts<A>, number: FrameId, frame: Frame)
-    requires { AreDoable plan.now (Deed.GoOn number frame ∷ []) parts.old }
-    ensures { parts.new ≡ do_deeds plan.now (Deed.GoOn number frame ∷ []) parts.old }
+fn set_frame<A: Agent>(plan: &IndexedPlan, parts: &mut Parts<A>, number: FrameId, frame: &Frame)
+    requires { AreDoable plan.now (Deed.GoOn number frame.now ∷ []) parts.old }
+    ensures { parts.new ≡ do_deeds plan.now (Deed.GoOn number frame.now ∷ []) parts.old }
 {
     parts.change_frame(plan, number, frame);
 }
@@ -88,37 +89,53 @@ fn access<A: Agent>(plan: &IndexedPlan, parts: &mut Parts<A>, cpu: Cpu, value: u
     go_on(plan, parts, number, &after);
 }
 
-/// What a part of a call does is done, and the frame goes on.
-#[tactic(auto, using(crate::proofs::Parts::done_after, crate::proofs::Parts::doable_first, crate::proofs::Parts::doable_then))]
-fn do_part<A: Agent>(
+/// What the second part of a call does is done, and the frame goes on.
+#[tactic(auto, using(wdf_parts::proofs::InTurn::done_after, wdf_parts::proofs::InTurn::doable_first, wdf_parts::proofs::InTurn::doable_then))]
+fn do_rest<A: Agent>(
     plan: &IndexedPlan,
     parts: &mut Parts<A>,
-    part: &Deeds,
+    call: &Call,
     number: FrameId,
-    frame: Frame,
+    frame: &Frame,
 )
-    requires { AreDoable plan.now (part.now ++ Deed.GoOn number frame ∷ []) parts.old }
-    ensures { parts.new ≡ do_deeds plan.now (part.now ++ Deed.GoOn number frame ∷ []) parts.old }
+    requires { AreDoable plan.now (calls.second_deeds number.0 call.now ++ Deed.GoOn number frame.now ∷ []) parts.old }
+    ensures { parts.new ≡ do_deeds plan.now (calls.second_deeds number.0 call.now ++ Deed.GoOn number frame.now ∷ []) parts.old }
 {
-    parts.do_deeds(plan, part);
+    do_second(plan, parts, number, call);
+    set_frame(plan, parts, number, frame);
+}
+
+/// What the first part of a call does is done, and the frame goes on.
+#[tactic(auto, using(wdf_parts::proofs::InTurn::done_after, wdf_parts::proofs::InTurn::doable_first, wdf_parts::proofs::InTurn::doable_then))]
+fn do_first<A: Agent>(
+    plan: &IndexedPlan,
+    parts: &mut Parts<A>,
+    first: &Deeds,
+    number: FrameId,
+    frame: &Frame,
+)
+    requires { AreDoable plan.now (first.now ++ Deed.GoOn number frame.now ∷ []) parts.old }
+    ensures { parts.new ≡ do_deeds plan.now (first.now ++ Deed.GoOn number frame.now ∷ []) parts.old }
+{
+    parts.do_deeds(plan, first);
     set_frame(plan, parts, number, frame);
 }
 
 /// What both parts of a call do is done, and the frame goes on.
-#[tactic(auto, using(crate::proofs::Parts::done_after, crate::proofs::Parts::doable_first, crate::proofs::Parts::doable_then))]
+#[tactic(auto, using(wdf_parts::proofs::InTurn::done_after, wdf_parts::proofs::InTurn::doable_first, wdf_parts::proofs::InTurn::doable_then))]
 fn do_both<A: Agent>(
     plan: &IndexedPlan,
     parts: &mut Parts<A>,
     first: &Deeds,
-    second: &Deeds,
+    call: &Call,
     number: FrameId,
-    frame: Frame,
+    frame: &Frame,
 )
-    requires { AreDoable plan.now (first.now ++ second.now ++ Deed.GoOn number frame ∷ []) parts.old }
-    ensures { parts.new ≡ do_deeds plan.now (first.now ++ second.now ++ Deed.GoOn number frame ∷ []) parts.old }
+    requires { AreDoable plan.now (first.now ++ calls.second_deeds number.0 call.now ++ Deed.GoOn number frame.now ∷ []) parts.old }
+    ensures { parts.new ≡ do_deeds plan.now (first.now ++ calls.second_deeds number.0 call.now ++ Deed.GoOn number frame.now ∷ []) parts.old }
 {
     parts.do_deeds(plan, first);
-    parts.do_deeds(plan, second);
+    do_second(plan, parts, number, call);
     set_frame(plan, parts, number, frame);
 }
 
@@ -133,8 +150,7 @@ fn answer<A: Agent>(plan: &IndexedPlan, parts: &mut Parts<A>, cpu: Cpu, call: &C
     let frame = parts.cpus().frame(number);
     let after = answered(plan, frame, value).of(frame);
     let outcome = outcome(plan, parts, cpu, number, call);
-    let second = second_deeds(number, call);
-    do_both(plan, parts, &outcome.deeds, &second, number, after);
+    do_both(plan, parts, &outcome.deeds, call, number, &after);
 }
 
 /// The first part of a call is done, and the frame waits for the rest.
@@ -148,7 +164,7 @@ fn wait<A: Agent>(plan: &IndexedPlan, parts: &mut Parts<A>, cpu: Cpu, call: &Cal
     let outcome = outcome(plan, parts, cpu, number, call);
     let frame = parts.cpus().frame(number);
     let after = waiting(frame, call, outcome.answer).of(frame);
-    do_part(plan, parts, &outcome.deeds, number, after);
+    do_first(plan, parts, &outcome.deeds, number, &after);
 }
 
 /// A wait is over: the second part of its call is done, and the frame goes on.
@@ -161,24 +177,7 @@ fn wake<A: Agent>(plan: &IndexedPlan, parts: &mut Parts<A>, cpu: Cpu, call: &Cal
     };
     let frame = parts.cpus().frame(number);
     let after = answered(plan, frame, value).of(frame);
-    let second = second_deeds(number, call);
-    do_part(plan, parts, &second, number, after);
-}
-
-/// What these deeds do is done.
-fn do_all<A: Agent>(plan: &IndexedPlan, parts: &mut Parts<A>, deeds: Deeds)
-    requires { AreDoable plan.now deeds parts.old }
-    ensures { parts.new ≡ do_deeds plan.now deeds parts.old }
-{
-    parts.do_deeds(plan, &deeds);
-}
-
-/// One deed is done.
-fn do_one<A: Agent>(plan: &IndexedPlan, parts: &mut Parts<A>, deed: Deed)
-    requires { AreDoable plan.now (deed ∷ []) parts.old }
-    ensures { parts.new ≡ do_deeds plan.now (deed ∷ []) parts.old }
-{
-    parts.do_deed(plan, &deed);
+    do_rest(plan, parts, call, number, &after);
 }
 
 /// Does the deeds of an event, one row for each kind.
@@ -195,10 +194,7 @@ fn take<A: Agent>(plan: &IndexedPlan, parts: &mut Parts<A>, event: &Event)
             callback,
             object,
             request,
-        } => {
-            let deeds = start_deeds(plan, parts, *cpu, *callback, *object, *request);
-            do_all(plan, parts, deeds);
-        }
+        } => start_callback(plan, parts, *cpu, *callback, *object, *request),
         Event::Local { cpu, .. } => step_inside(plan, parts, *cpu),
         Event::Log { cpu, .. } => print(plan, parts, *cpu),
         Event::Spend { cpu, ticks } => spend(plan, parts, *cpu, *ticks),
@@ -210,48 +206,25 @@ fn take<A: Agent>(plan: &IndexedPlan, parts: &mut Parts<A>, event: &Event)
         } => answer(plan, parts, *cpu, call, *value),
         Event::Waiting { cpu, call } => wait(plan, parts, *cpu, call),
         Event::Woke { cpu, call, answer } => wake(plan, parts, *cpu, call, *answer),
-        Event::Park { cpu, .. } => do_one(plan, parts, Deed::ParkFrame { cpu: *cpu }),
-        Event::Unpark { cpu, frame } => do_one(
-            plan,
-            parts,
-            Deed::UnparkFrame {
-                cpu: *cpu,
-                frame: *frame,
-            },
-        ),
+        Event::Park { cpu, .. } => parts.park_frame(*cpu),
+        Event::Unpark { cpu, frame } => parts.unpark_frame(*cpu, *frame),
         Event::End {
             cpu,
             callback,
             object,
             value,
-        } => {
-            let deeds = end_deeds(plan, parts, *cpu, *callback, object.id, *value);
-            do_all(plan, parts, deeds);
-        }
+        } => end_callback(plan, parts, *cpu, *callback, object.id, *value),
         Event::Fault { .. } => {}
         Event::Stage {
             device,
             stage,
             interrupt,
-        } => do_all(
-            plan,
-            parts,
-            stage_deeds(plan, device.id, *stage, *interrupt),
-        ),
-        Event::Complete { request, .. } => do_one(
-            plan,
-            parts,
-            Deed::CompleteRequest {
-                request: request.id,
-            },
-        ),
-        Event::Cleanup { object } => do_one(plan, parts, Deed::CleanUp { object: object.id }),
-        Event::Destroy { object } => do_one(plan, parts, Deed::EndLife { object: object.id }),
-        Event::Posted { agent, post, .. } => {
-            let deeds = post_deeds(plan, parts, *agent, post);
-            do_all(plan, parts, deeds);
-        }
-        Event::Tick { .. } => do_one(plan, parts, Deed::PassTick),
+        } => pass_stage(plan, parts, device.id, *stage, *interrupt),
+        Event::Complete { request, .. } => parts.complete(request.id),
+        Event::Cleanup { object } => parts.clean_up(object.id),
+        Event::Destroy { object } => parts.end_life(object.id),
+        Event::Posted { agent, post, .. } => take_post(plan, parts, *agent, post),
+        Event::Tick { .. } => parts.pass_tick(),
     }
 }
 

@@ -9,9 +9,9 @@ use Rattle.wdf_base.specs.declared.event.Actor.TheVariants as actor
 use Rattle.wdf_base.specs.Same.{same_actor}
 use Rattle.wdf_model.specs.Runs.{place_for}
 use Rattle.wdf_ready.specs.Actors.{actor_of}
-use Rattle.wdf_ready.specs.Search.{NoneBefore}
+use Rattle.wdf_offers.specs.Search.{NoneBefore}
 use Rattle.wdf_ready.specs.Sides as sides
-use Rattle.wdf_ready.proofs.Passing.{first_at, none_at}
+use Rattle.wdf_offers.proofs.Passing.{first_at, none_at}
 use Rattle.wdf_workers.specs.Crews.{Advances, progress_of, progress_where, side_of, takes_of}
 use Rattle.wdf_crew.specs.declared.crew.Crew.{Crew}
 use Rattle.wdf_crew.specs.declared.crew.Crew.TheVariants.{Processor, Framework, Agents}

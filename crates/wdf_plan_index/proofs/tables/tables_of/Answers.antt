@@ -24,4 +24,5 @@ returns c = record {
   target_names = c.in_ok-targets.ensures.names;
   scripts = c.in_ok-script_names.ensures ∙ c.in_ok-names.ensures;
   belongings = c.in_ok-belongings.ensures ∙ c.in_ok-over.ensures;
+  handlers = c.in_ok-handlers.ensures;
 }

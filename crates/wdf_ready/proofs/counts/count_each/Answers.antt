@@ -1,9 +1,9 @@
 -- A group more is counted, and its count is kept.
 use Rattle.std.proofs.Common.{◌+◌, ◌≤◌, length, subst, sym, drop, arith}
 use Rattle.wdf_model.specs.declared.enums.Group.TheVariants as group
-use Rattle.wdf_ready.specs.Search.{events_of}
+use Rattle.wdf_offers.specs.Search.{events_of}
 use Rattle.wdf_ready.proofs.Counting.{all_counted, none_counted, one_counted}
-use Rattle.wdf_ready.proofs.Passing.{Passed, group_passes, index_there, nothing_passed}
+use Rattle.wdf_offers.proofs.Passing.{Passed, group_passes, index_there, nothing_passed}
 use Rattle.wdf_ready.proofs.counts.count_each.Goals as goal
 
 pub loop-at-init : goal.loop-at-init

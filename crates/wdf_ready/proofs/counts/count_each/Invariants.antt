@@ -1,8 +1,8 @@
 -- The groups so far were passed, and their counts are there.
 use Rattle.std.proofs.Common.{◌*◌, ◌≤◌, ◌^◌, drop}
-use Rattle.wdf_ready.specs.Search.{events_of}
+use Rattle.wdf_offers.specs.Search.{events_of}
 use Rattle.wdf_ready.specs.Counts.{IsCountedTo}
-use Rattle.wdf_ready.proofs.Passing.{Passed}
+use Rattle.wdf_offers.proofs.Passing.{Passed}
 use Rattle.wdf_ready.proofs.counts.count_each.Given as goal
 
 abbrev pub invariant-loop-at : goal.invariant-loop-at

@@ -1,6 +1,6 @@
 -- One group more, which can have places or not.
 use Rattle.std.proofs.Common.{◌<◌, length, sym, ◌∙◌, arith}
-use Rattle.wdf_ready.specs.Search.{has_places}
+use Rattle.wdf_offers.specs.Search.{has_places}
 use Rattle.wdf_ready.proofs.Kept.{next_kept, next_left}
 use Rattle.wdf_ready.proofs.groups.with_places.Goals as goal
 use Rattle.wdf_ready.proofs.groups.with_places.Goals.{then-has_places, else-has_places}

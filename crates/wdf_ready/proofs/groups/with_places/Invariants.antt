@@ -1,6 +1,6 @@
 -- Those of the groups so far, and room for as many as there are.
 use Rattle.std.proofs.Common.{◌≡◌, ◌≤◌, filter, length, take, vec_capacity, vec_len}
-use Rattle.wdf_ready.specs.Search.{has_places}
+use Rattle.wdf_offers.specs.Search.{has_places}
 use Rattle.wdf_ready.proofs.groups.with_places.Given as goal
 
 abbrev pub invariant-loop-group : goal.invariant-loop-group

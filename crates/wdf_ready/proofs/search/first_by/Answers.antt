@@ -1,8 +1,8 @@
 -- The event is in this group, or the group is passed.
 use Rattle.std.proofs.Common.{◌≡◌, ◌+◌, ◌≤◌, [], ap, sym, subst, drop, length, arith}
 use Rattle.wdf_ready.specs.Actors.{is_by}
-use Rattle.wdf_ready.specs.Search.{events_of}
-use Rattle.wdf_ready.proofs.Passing.{Passed, all_passed, drops_all, first_of, group_next, group_passes, index_there, none_at, none_in, same_rest}
+use Rattle.wdf_offers.specs.Search.{events_of}
+use Rattle.wdf_offers.proofs.Passing.{Passed, all_passed, drops_all, first_of, group_next, group_passes, index_there, none_at, none_in, same_rest}
 use Rattle.wdf_ready.proofs.search.first_by.Goals as goal
 
 pub returns-in-Ok : goal.returns-in-Ok

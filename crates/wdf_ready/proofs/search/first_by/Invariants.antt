@@ -1,8 +1,8 @@
 -- The groups so far were passed, and none of their events is the actor's.
 use Rattle.std.proofs.Common.{◌*◌, ◌≤◌, ◌^◌, drop}
 use Rattle.wdf_ready.specs.Actors.{is_by}
-use Rattle.wdf_ready.specs.Search.{NoneBefore, events_of}
-use Rattle.wdf_ready.proofs.Passing.{Passed}
+use Rattle.wdf_offers.specs.Search.{NoneBefore, events_of}
+use Rattle.wdf_offers.proofs.Passing.{Passed}
 use Rattle.wdf_ready.proofs.search.first_by.Given as goal
 
 abbrev pub invariant-loop-group : goal.invariant-loop-group

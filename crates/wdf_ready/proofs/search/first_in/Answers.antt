@@ -1,8 +1,8 @@
 -- The event is the actor's; or a place more is passed, whose event is another's, or which offers none.
 use Rattle.std.proofs.Common.{◌≡◌, Some, None, sym, ap, ◌∙◌, arith}
 use Rattle.wdf_ready.specs.Actors.{is_by}
-use Rattle.wdf_ready.specs.Search.{offered, offered_from}
-use Rattle.wdf_ready.proofs.Passing.{hits, next_fails, passes, takes}
+use Rattle.wdf_offers.specs.Search.{offered, offered_from}
+use Rattle.wdf_offers.proofs.Passing.{hits, next_fails, passes, takes}
 use Rattle.wdf_ready.proofs.search.first_in.Goals as goal
 use Rattle.wdf_ready.proofs.search.first_in.Goals.{in-Some-offered+else-is_by, in_default-offered}
 

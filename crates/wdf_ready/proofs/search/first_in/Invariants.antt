@@ -1,8 +1,8 @@
 -- As many events as were counted were passed, and none of them is the actor's.
 use Rattle.std.proofs.Common.{◌-◌, ◌≤◌, ◌^◌}
 use Rattle.wdf_ready.specs.Actors.{is_by}
-use Rattle.wdf_ready.specs.Search.{NoneBefore, offered_from}
-use Rattle.wdf_ready.proofs.Passing.{Passed}
+use Rattle.wdf_offers.specs.Search.{NoneBefore, offered_from}
+use Rattle.wdf_offers.proofs.Passing.{Passed}
 use Rattle.wdf_ready.proofs.search.first_in.Given as goal
 
 abbrev pub invariant-search : goal.invariant-search

@@ -1,6 +1,6 @@
 -- What isn't due, closing or cleaned, or whose turn hasn't come, is passed over.
 use Rattle.std.proofs.Common.{sym, ◌∙◌}
-use Rattle.wdf_ready.proofs.Skips.{cleanups_answer, completions_answer, destroys_answer, due_answer, group_answer, searched, search_over, stages_answer, stays}
+use Rattle.wdf_offers.proofs.Skips.{cleanups_answer, completions_answer, destroys_answer, due_answer, group_answer, searched, search_over, stages_answer, stays}
 use Rattle.wdf_ready.proofs.search.next_place.Goals as goal
 
 pub returns-then-from-end : goal.returns-then-from-end

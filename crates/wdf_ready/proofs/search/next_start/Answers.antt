@@ -1,5 +1,5 @@
 -- What one part rules out is passed over.
-use Rattle.wdf_ready.proofs.Skips.{startable_answer}
+use Rattle.wdf_offers.proofs.Skips.{startable_answer}
 use Rattle.wdf_ready.proofs.search.next_start.Goals as goal
 
 pub returns : goal.returns

@@ -1,8 +1,8 @@
 -- A frame's own event may come, and so may each completion.
 use Rattle.std.proofs.Common.{sym, ap, ◌∙◌}
-use Rattle.wdf_ready.specs.Search.{if_allowed, offered}
-use Rattle.wdf_ready.proofs.Own.{own_is_offered}
-use Rattle.wdf_ready.proofs.Straight.{completion_is_offered}
+use Rattle.wdf_offers.specs.Search.{if_allowed, offered}
+use Rattle.wdf_offers.proofs.Own.{own_is_offered}
+use Rattle.wdf_offers.proofs.Straight.{completion_is_offered}
 use Rattle.wdf_ready.proofs.search.offered.Goals as goal
 
 pub returns-in-OwnEvent : goal.returns-in-OwnEvent

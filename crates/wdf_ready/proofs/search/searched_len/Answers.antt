@@ -1,7 +1,7 @@
 -- A place more is passed, and its event, if it offers one.
 use Rattle.std.proofs.Common.{sym, ◌∙◌, arith}
-use Rattle.wdf_ready.specs.Search.{offered_from}
-use Rattle.wdf_ready.proofs.Passing.{offers, offers_none, passes, takes}
+use Rattle.wdf_offers.specs.Search.{offered_from}
+use Rattle.wdf_offers.proofs.Passing.{offers, offers_none, passes, takes}
 use Rattle.wdf_ready.proofs.search.searched_len.Goals as goal
 use Rattle.wdf_ready.proofs.search.searched_len.Goals.{then-is_some, else-is_some}
 

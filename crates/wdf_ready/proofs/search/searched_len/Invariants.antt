@@ -1,7 +1,7 @@
 -- As many events as were counted were passed.
 use Rattle.std.proofs.Common.{◌-◌, ◌≤◌, ◌^◌}
-use Rattle.wdf_ready.specs.Search.{offered_from}
-use Rattle.wdf_ready.proofs.Passing.{Passed}
+use Rattle.wdf_offers.specs.Search.{offered_from}
+use Rattle.wdf_offers.proofs.Passing.{Passed}
 use Rattle.wdf_ready.proofs.search.searched_len.Given as goal
 
 abbrev pub invariant-search : goal.invariant-search

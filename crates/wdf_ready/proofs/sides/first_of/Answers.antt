@@ -1,6 +1,6 @@
 -- The event is in this group, or the group is passed.
 use Rattle.std.proofs.Common.{◌≤◌, length, sym, ◌∙◌, arith}
-use Rattle.wdf_ready.proofs.Passing.{index_there}
+use Rattle.wdf_offers.proofs.Passing.{index_there}
 use Rattle.wdf_ready.proofs.SidesOfGroups.{found_here, found_later, no_groups}
 use Rattle.wdf_ready.proofs.sides.first_of.Goals as goal
 

@@ -1,6 +1,6 @@
 -- No event of the groups so far is the side's.
 use Rattle.std.proofs.Common.{◌≡◌, drop, find}
-use Rattle.wdf_ready.specs.Search.{events_of}
+use Rattle.wdf_offers.specs.Search.{events_of}
 use Rattle.wdf_ready.specs.Sides.{is_of}
 use Rattle.wdf_ready.proofs.sides.first_of.Given as goal
 

@@ -3,6 +3,7 @@ use Rattle.std.proofs.Common.{◌≡◌, ℕ, List, [], length, replicate, refl,
 use Rattle.std.proofs.lemmas.Simd.{splat_is_map}
 use Rattle.wdf_model.specs.parts.Cpus.{Cpus}
 use Rattle.wdf_cpu.proofs.Keeping.{kept_opening}
+use Rattle.wdf_cpu.proofs.Parking.{parking_opening}
 use Rattle.wdf_cpu.proofs.Ticks.{spending_opening}
 use Rattle.wdf_cpu.proofs.cpus.Cpus.begin_again.Goals as goal
 
@@ -16,7 +17,8 @@ invariant_of-self c =
       peaks_room = rw c.clear-5.ensures.capacity c.self.invariant.peaks_room;
       parked_room = rw c.clear-2.ensures.room c.self.invariant.parked_room;
       kept = rw (c.clear.ensures, stacks, c.clear-2.ensures.entries, c.clear-3.ensures, c.clear-4.ensures.items, c.clear-5.ensures.items, c.clear-6.ensures, c.clear-7.ensures) (kept_opening c.args.plan.now);
-      untils = rw (c.clear.ensures, stacks, c.clear-2.ensures.entries, c.clear-3.ensures, c.clear-8.ensures) (spending_opening c.args.plan.now);
+      parked_for = rw (c.clear.ensures, stacks, c.clear-2.ensures.entries, c.clear-3.ensures, c.clear-8.ensures) (parking_opening c.args.plan.now);
+      untils = rw (c.clear.ensures, stacks, c.clear-2.ensures.entries, c.clear-3.ensures, c.clear-9.ensures) (spending_opening c.args.plan.now);
     }
 
 pub returns : goal.returns

@@ -18,5 +18,6 @@ invariant_of-self c =
       parked_room = h.parked_room;
       kept = rw (c.lower.ensures, c.put_at.ensures.entries)
           (kept_lower (cpus_in a) a.live.items a.peaks.items a.on a.waits c.args.f.0 c.args.level.0 c.peak.result.0 peak h.kept);
+      parked_for = rw c.lower.ensures (record { counted = h.parked_for.counted });
       untils = rw c.lower.ensures (record { counts = h.untils.counts; many = h.untils.many });
     }

@@ -7,6 +7,7 @@ use Rattle.wdf_cpu.specs.Keys.{object_key, wait_key}
 use Rattle.wdf_cpu.specs.Kept.{cpus_in}
 use Rattle.wdf_cpu.proofs.Keeping.{kept_pop, on_counted, untils_fit, wait_counted}
 use Rattle.wdf_cpu.proofs.Live.{top_goes_off, top_is_on, top_within}
+use Rattle.wdf_cpu.proofs.Parking.{parking_popped}
 use Rattle.wdf_cpu.proofs.Swapping.{swapped_by}
 use Rattle.wdf_cpu.proofs.Ticks.{spending_popped, until_there}
 use Rattle.wdf_cpu.proofs.cpus.Cpus.pop.Goals as goal
@@ -60,6 +61,7 @@ invariant_of-self c =
           (swapped_by a.on c.moves.new.self c.object_key-object.result None (object_key (frame_of (cpus_in a) c.unwrap.result)) None c.moves.ensures object refl (on_counted a c.unwrap.result _ h refl one))
           (swapped_by a.waits c.moves-2.new.self c.wait_key-awaited.result None (wait_key (frame_of (cpus_in a) c.unwrap.result)) None c.moves-2.ensures awaited refl (wait_counted a c.unwrap.result _ h refl one))
           h.kept);
+      parked_for = rw (c.remove.ensures, c.pop_from.ensures.rest, c.forget.ensures) (parking_popped (cpus_in a) a.live.items a.parked_for c.args.cpu.0 c.unwrap.result is_top h.kept.live h.parked_for);
       untils = rw (c.remove.ensures, c.pop_from.ensures.rest, c.forget.ensures)
           (spending_popped (cpus_in a) a.untils c.moves-3.new.self c.args.cpu.0 c.unwrap.result is_top (top_goes_off (cpus_in a) a.live.items c.args.cpu.0 c.unwrap.result is_top h.kept.live) (rw c.running.ensures.value at c.moves-3.ensures) h.untils);
     }

@@ -7,6 +7,7 @@ use Rattle.wdf_cpu.specs.Kept.{cpus_in}
 use Rattle.wdf_cpu.proofs.Keeping.{kept_push, on_fits, untils_fit, waits_fit}
 use Rattle.wdf_cpu.proofs.Live.{room_to_push}
 use Rattle.wdf_cpu.proofs.Numbers.{absent_from}
+use Rattle.wdf_cpu.proofs.Parking.{parking_push}
 use Rattle.wdf_cpu.proofs.Swapping.{none_left, swapped_by}
 use Rattle.wdf_cpu.proofs.Ticks.{spending_push}
 use Rattle.wdf_cpu.proofs.cpus.Cpus.push.Goals as goal
@@ -41,5 +42,6 @@ invariant_of-self c =
           (swapped_by a.on c.moves.new.self None c.object_key.result None (object_key c.args.frame) c.moves.ensures refl c.object_key.ensures (none_left a.on))
           (swapped_by a.waits c.moves-2.new.self None c.wait_key.result None (wait_key c.args.frame) c.moves-2.ensures refl c.wait_key.ensures (none_left a.waits))
           h.kept);
+      parked_for = rw (c.put.ensures, c.push_on.ensures.pushed) (parking_push (cpus_in a) a.parked_for c.args.cpu.0 c.args.f.0 c.args.frame c.args.level.0 (absent_from c.args.f.0 (all_frames (cpus_in a)) fresh) h.parked_for);
       untils = rw (c.put.ensures, c.push_on.ensures.pushed) (spending_push (cpus_in a) a.untils c.moves-3.new.self c.args.cpu.0 c.args.f.0 c.args.frame c.args.level.0 (absent_from c.args.f.0 (all_frames (cpus_in a)) fresh) c.moves-3.ensures h.untils);
     }

@@ -14,5 +14,6 @@ invariant_of-self c =
       parked_room = h.parked_room;
       kept = rw (c.raise.ensures, c.put_at.ensures.entries, c.max.ensures, c.entry_at-peak.ensures, c.deref.ensures.value)
           (kept_raise (cpus_in a) a.live.items a.peaks.items a.on a.waits c.args.f.0 c.args.level.0 h.kept);
+      parked_for = rw c.raise.ensures (record { counted = h.parked_for.counted });
       untils = rw c.raise.ensures (record { counts = h.untils.counts; many = h.untils.many });
     }

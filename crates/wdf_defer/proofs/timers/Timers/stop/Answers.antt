@@ -1,46 +1,35 @@
-use Rattle.std.proofs.Common.{◌/◌, max, ap, refl, subst, sym, ◌∙◌}
-use Rattle.wdf_model.specs.declared.room.TheConstants.{OBJECTS}
-use Rattle.wdf_maps.specs.Places.{entry_of}
-use Rattle.wdf_maps.proofs.PlacesOfKeys.{rises_others}
-use Rattle.wdf_defer.specs.Ticks.{due_tick, latest_of, timer_id}
-use Rattle.wdf_defer.specs.Floors.{IsFloor}
-use Rattle.wdf_defer.proofs.FloorsKept.{nothing_went, there_below, went}
-use Rattle.wdf_defer.proofs.LatestTick as latest
+-- The timer is neither queued nor reached.
+use Rattle.std.proofs.Common.{◌≡◌, ◌∙◌, sym, ap, subst, arith}
+use Rattle.wdf_model.specs.parts.Deferred.Timers.{Timers, is_timer_queued, stop}
+use Rattle.wdf_defer.proofs.TimersOfSet.{least_stopped, none_stopped, queued_is, queued_stopped, reached_stopped, room_stopped, timed_none}
 use Rattle.wdf_defer.proofs.timers.Timers.stop.Goals as goal
 
-pub floor_in-requires-clause-rising : goal.floor_in-requires-clause-rising
-floor_in-requires-clause-rising c = rw c.remove-was_queued.ensures.entries (rises_others timer_id OBJECTS c.args.o.0 c.self.inside.queued.entries c.self.invariant.objects)
-
-pub latest_after-self-inside-requires : goal.latest_after-self-inside-requires
-latest_after-self-inside-requires c =
-    let moved = latest.went OBJECTS c.args.o.0 c.self.inside.queued.entries c.remove-was_queued.new.self.entries c.self.invariant.objects c.remove-was_queued.ensures.entries in
-    record {
-      rest = moved.rest;
-      was = c.self.invariant.latest ∙ (moved.was ∙ ap (λ n. max n moved.rest) (sym (c.tick_of.ensures ∙ ap due_tick c.get-went.ensures)));
-      is = ap latest_of c.as_slice-queued.ensures ∙ moved.is;
-    }
-
-pub floor_in-requires-clause-object : goal.floor_in-requires-clause-object
-floor_in-requires-clause-object c =
-    there_below c.self.inside.queued.entries c.args.o.0 (entry_of timer_id c.self.inside.queued.entries c.args.o.0) c.self.invariant.objects refl (sym c.remove-was_queued.ensures.answer ∙ c.if-was_queued.true)
-
-pub put-requires : goal.put-requires
-put-requires c =
-    there_below c.self.inside.queued.entries c.args.o.0 (entry_of timer_id c.self.inside.queued.entries c.args.o.0) c.self.invariant.objects refl (sym c.remove-was_queued.ensures.answer ∙ c.if-was_queued.true)
-
 pub invariant_of-self : goal.invariant_of-self
-invariant_of-self c = record {
-  objects = rw c.remove-was_queued.ensures.entries (rises_others timer_id OBJECTS c.args.o.0 c.self.inside.queued.entries c.self.invariant.objects);
-  room = c.remove-was_queued.ensures.room ∙ c.self.invariant.room;
-  floors = rw (c.put.ensures, c.remove-was_queued.ensures.entries) (went c.self.inside.floors c.args.o.0 c.floor_in.result c.self.inside.queued.entries c.self.invariant.floors
-      (subst (λ ts. IsFloor ts (c.args.o.0 / 64) c.floor_in.result) c.remove-was_queued.ensures.entries c.floor_in.ensures));
-  latest = c.latest_after-self-inside.ensures ∙ ap latest_of c.as_slice-queued.ensures;
-}
+invariant_of-self c =
+    let i = c.self.inside in
+    let o = c.args.o.0 in
+    let low = c.self.invariant.room.objects o (sym c.contains-was_queued.ensures ∙ c.if-was_queued.true) in
+    rw (c.put.ensures, c.put-then-was_queued.ensures) (record {
+      room = room_stopped i.queued i.reached i.ticks i.floors i.seen c.self.invariant.room c.self.invariant.reached o low;
+      reached = reached_stopped i.queued i.reached i.ticks i.floors i.seen c.self.invariant.room c.self.invariant.reached o low;
+      least = least_stopped i.queued i.reached i.ticks i.floors i.seen c.self.invariant.room c.self.invariant.reached o low i.least c.self.invariant.least;
+    })
 
-pub invariant_of-self-else-was_queued : goal.invariant_of-self-else-was_queued
-invariant_of-self-else-was_queued c = record {
-  objects = rw c.remove-was_queued.ensures.entries (rises_others timer_id OBJECTS c.args.o.0 c.self.inside.queued.entries c.self.invariant.objects);
-  room = c.remove-was_queued.ensures.room ∙ c.self.invariant.room;
-  floors = nothing_went c.self.inside.floors c.self.inside.queued.entries c.remove-was_queued.new.self.entries c.args.o.0 c.self.invariant.floors (sym c.remove-was_queued.ensures.answer ∙ c.if-was_queued.false) c.remove-was_queued.ensures.entries;
-  latest = c.latest_after-self-inside.ensures ∙ ap latest_of c.as_slice-queued.ensures;
-}
+pub returns-then-was_queued-clause-answer : goal.returns-then-was_queued-clause-answer
+returns-then-was_queued-clause-answer c =
+    c.contains-was_queued.ensures ∙ queued_is c.self.inside.queued c.self.inside.ticks c.args.o.0 ∙ ap (λ (T : Timers). is_timer_queued T c.args.o.0) c.self.view_is
+
+pub returns-else-was_queued-clause-answer : goal.returns-else-was_queued-clause-answer
+returns-else-was_queued-clause-answer c =
+    c.contains-was_queued.ensures ∙ queued_is c.self.inside.queued c.self.inside.ticks c.args.o.0 ∙ ap (λ (T : Timers). is_timer_queued T c.args.o.0) c.self.view_is
+
+pub returns-then-was_queued-clause-done : goal.returns-then-was_queued-clause-done
+returns-then-was_queued-clause-done c =
+    let room = c.self.invariant.room.queued_room in
+    let low = c.self.invariant.room.objects c.args.o.0 (sym c.contains-was_queued.ensures ∙ c.if-was_queued.true) in
+    rw c.put.ensures (queued_stopped c.self.inside.queued c.self.inside.ticks c.args.o.0 (omega arith) ∙ ap (λ (T : Timers). stop T c.args.o.0) c.self.view_is)
+
+pub returns-else-was_queued-clause-done : goal.returns-else-was_queued-clause-done
+returns-else-was_queued-clause-done c =
+    let P : Timers → Type 0 = λ T. T ≡ stop T c.args.o.0 in
+    subst P c.self.view_is (none_stopped _ c.args.o.0 (timed_none c.self.inside.queued c.self.inside.ticks c.args.o.0 (sym c.contains-was_queued.ensures ∙ c.if-was_queued.false)))

@@ -1,8 +1,11 @@
 -- Nothing is held and nothing is counted, as at first.
-use Rattle.std.proofs.Common.{◌≡◌, ◌+◌, length, ap, refl, ◌∙◌, arith}
+use Rattle.std.proofs.Common.{is_some, ◌≡◌, ◌+◌, length, ap, refl, ◌∙◌, arith}
 use Rattle.wdf_maps.proofs.Counting.{none_counted}
 use Rattle.wdf_model.specs.parts.Power.{Power}
 use Rattle.wdf_power.specs.Power.{due_at, resume_of, unsettled_at}
+use Rattle.wdf_power.specs.ForQueues.{resuming_queue, unasked_queue}
+use Rattle.wdf_power.proofs.ForQueues.{empty_set}
+use Rattle.wdf_model.specs.declared.entries.Holding.{Holding}
 use Rattle.wdf_power.proofs.holdings.Holdings.begin_again.Goals as goal
 
 pub write_queues-requires : goal.write_queues-requires
@@ -20,6 +23,10 @@ invariant_of-self c =
       unsettled = rw (empty, c.clear-2.ensures) (none_counted (unsettled_at qs));
       due = rw (empty, c.clear-3.ensures) (none_counted (due_at qs));
       resumes = rw (empty, c.clear-4.ensures) (none_counted resume_of);
+      unasked = rw (empty, c.clear-5.ensures) (none_counted unasked_queue);
+      unasked_ids = rw empty (empty_set (λ (h : Holding). is_some (unasked_queue h)) (length c.self.inside.unasked_ids) _ refl c.self.invariant.unasked_ids.room c.clear-6.ensures);
+      resuming = rw (empty, c.clear-7.ensures) (none_counted resuming_queue);
+      resuming_ids = rw empty (empty_set (λ (h : Holding). h.resume_due) (length c.self.inside.resuming_ids) _ refl c.self.invariant.resuming_ids.room c.clear-8.ensures);
     }
 
 pub returns : goal.returns

@@ -1,5 +1,4 @@
 -- A resume is due where the count isn't 0.
-use Rattle.std.proofs.Common.{refl, arith}
 use Rattle.wdf_power.specs.Held.{holdings_in}
 use Rattle.wdf_power.proofs.Readers.{resume_counted}
 use Rattle.wdf_power.proofs.holdings.Holdings.some_resume_due.Goals as goal

@@ -1,5 +1,5 @@
 -- One request more is awake, and all.
-use Rattle.std.proofs.Common.{◌≡◌, true, Some, take, slice_get, sym, ap, ◌∙◌, arith}
+use Rattle.std.proofs.Common.{◌≡◌, Some, take, slice_get, sym, ap, ◌∙◌, arith}
 use Rattle.std.proofs.lemmas.List.{take_all}
 use Rattle.wdf_model.specs.Tables.{put}
 use Rattle.wdf_model.specs.parts.Power.{no_holding, woken}

@@ -1,8 +1,8 @@
 -- The event is in this group, or the group is passed.
 use Rattle.std.proofs.Common.{◌≡◌, ◌-◌, ◌≤◌, [], ap, sym, drop, length, arith}
-use Rattle.wdf_ready.specs.Search.{events_of}
+use Rattle.wdf_offers.specs.Search.{events_of}
 use Rattle.wdf_ready.proofs.Counting.{none_counted, read_right}
-use Rattle.wdf_ready.proofs.Passing.{beyond, drops_all, group_at, group_left, index_there, same_rest}
+use Rattle.wdf_offers.proofs.Passing.{beyond, drops_all, group_at, group_left, index_there, same_rest}
 use Rattle.wdf_ready.proofs.counts.KeptCounts.at.Goals as goal
 
 pub event_of-requires-clause-known : goal.event_of-requires-clause-known

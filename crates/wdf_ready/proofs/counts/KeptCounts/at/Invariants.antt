@@ -1,7 +1,7 @@
 -- The groups so far were passed.
 use Rattle.std.proofs.Common.{◌-◌, ◌≤◌, drop}
-use Rattle.wdf_ready.specs.Search.{events_of}
-use Rattle.wdf_ready.proofs.Passing.{Passed}
+use Rattle.wdf_offers.specs.Search.{events_of}
+use Rattle.wdf_offers.proofs.Passing.{Passed}
 use Rattle.wdf_ready.proofs.counts.KeptCounts.at.Given as goal
 
 abbrev pub invariant-loop-at : goal.invariant-loop-at

@@ -1,8 +1,8 @@
 -- A group more is counted.
 use Rattle.std.proofs.Common.{◌+◌, sym, subst, drop, arith}
-use Rattle.wdf_ready.specs.Search.{events_of}
+use Rattle.wdf_offers.specs.Search.{events_of}
 use Rattle.wdf_ready.proofs.Counting.{none_counted, read_right}
-use Rattle.wdf_ready.proofs.Passing.{Passed, group_passes, index_there}
+use Rattle.wdf_offers.proofs.Passing.{Passed, group_passes, index_there}
 use Rattle.wdf_ready.proofs.counts.KeptCounts.len.Goals as goal
 
 pub len_of-sum-requires-clause-known : goal.len_of-sum-requires-clause-known

@@ -1,9 +1,9 @@
 -- Nothing is kept of no request.
-use Rattle.std.proofs.Common.{refl, lit≤, arith}
+use Rattle.std.proofs.Common.{is_some, refl, lit≤, arith}
 use Rattle.std.specs.Prelude.{IfOk, IsErr, Result, Ok, Err}
 use Rattle.wdf_base.specs.Places.{is_closing, is_due, is_sent}
 use Rattle.wdf_model.specs.declared.entries.Request.{Request}
-use Rattle.wdf_request.specs.Keys.{returning_queue, sent_target, unfinished_device}
+use Rattle.wdf_request.specs.Keys.{due_queue, returning_queue, sent_target, unfinished_device}
 use Rattle.wdf_maps.proofs.Counting.{none_counted}
 use Rattle.wdf_request.proofs.Members.{empty_set}
 use Rattle.wdf_request.proofs.Noting.{none_noted}
@@ -22,6 +22,9 @@ invariant_of-result c =
       closing = rw none (empty_set (λ (r : Request). is_closing r.place) 204800 _ refl (lit≤ tt) c.in_ok-make-4.ensures);
       due = rw none (empty_set (λ (r : Request). is_due r.info.mark) 204800 _ refl (lit≤ tt) c.in_ok-make-5.ensures);
       sendings = rw none (empty_set (λ (r : Request). is_sent r.place) 204800 _ refl (lit≤ tt) c.in_ok-make-6.ensures);
+      returns = rw none (empty_set (λ (r : Request). is_some (returning_queue r.place)) 204800 _ refl (lit≤ tt) c.in_ok-make-7.ensures);
+      due_held = rw (none, c.in_ok-make-8.ensures) (none_counted due_queue);
+      due_sent = rw none refl;
       noted = rw none (none_noted _);
     }
 
@@ -38,3 +41,6 @@ returns-in_err-make-6 c = failed c.from_residual-in_err-make-6.result _ c.from_r
 
 pub returns-in_err-make-7 : goal.returns-in_err-make-7
 returns-in_err-make-7 c = failed c.from_residual-in_err-make-7.result _ c.from_residual-in_err-make-7.ensures.0
+
+pub returns-in_err-make-8 : goal.returns-in_err-make-8
+returns-in_err-make-8 c = failed c.from_residual-in_err-make-8.result _ c.from_residual-in_err-make-8.ensures.0

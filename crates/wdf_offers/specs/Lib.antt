@@ -1,0 +1,6 @@
+pub mod Idle
+pub mod Search
+pub mod Leaving
+pub mod ForRequests
+pub mod Lesser
+pub mod Parked

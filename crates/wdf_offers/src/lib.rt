@@ -1,0 +1,29 @@
+//! What each group of candidates offers in a state: its candidates by place, which of these may come, and how many that is where
+//! it can be counted without a look at each.
+#![tactic(auto)]
+
+mod candidates;
+mod direct;
+mod due;
+mod for_requests;
+mod idle;
+mod leaving;
+mod parked;
+mod posts;
+mod started;
+
+pub use candidates::{
+    callback_for, completion_at, declared_end, parks, places_for, places_in, places_of_rank,
+    stage_at, start_for, unparks,
+};
+pub use direct::{
+    any_own, cleanup_offered, completion_offered, completions_len, end_offered, own_at, own_len,
+    park_at, park_len,
+};
+pub use due::{next_due, next_startable};
+pub use for_requests::{Herd, herd_at, herd_len, herd_of};
+pub use idle::is_idle;
+pub use leaving::{Leaving, numbered_at, numbered_len};
+pub use parked::{coming_at, coming_len, is_counted};
+pub use posts::{post_offered, posts_at, posts_len};
+pub use started::{is_cpu, start_offered};

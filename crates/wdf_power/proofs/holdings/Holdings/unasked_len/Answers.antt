@@ -1,0 +1,8 @@
+-- The members of the set are those requests.
+use Rattle.std.proofs.Common.{length, ap}
+use Rattle.wdf_power.specs.Held.{holdings_in}
+use Rattle.wdf_power.proofs.ForQueues.{members_unasked}
+use Rattle.wdf_power.proofs.holdings.Holdings.unasked_len.Goals as goal
+
+pub returns : goal.returns
+returns c = rw (c.len.ensures, ← c.self.view_is) (ap length (members_unasked (holdings_in c.self.inside) c.self.inside.unasked_ids c.self.invariant.within c.self.invariant.unasked_ids))

@@ -1,0 +1,12 @@
+-- The members of the set are those requests.
+use Rattle.std.proofs.Common.{ap, find, nat_le, ◌∙◌}
+use Rattle.wdf_sets.proofs.Nexts.{member_from}
+use Rattle.wdf_request.specs.Requests.{requests_in}
+use Rattle.wdf_request.proofs.ForQueues.{members_returning}
+use Rattle.wdf_request.proofs.requests.Requests.next_returning.Goals as goal
+
+pub returns : goal.returns
+returns c =
+    rw (c.object_at.ensures, c.from.ensures, ← c.self.view_is)
+    (member_from c.self.inside.returns c.args.from.0
+    ∙ ap (λ ids. find (nat_le c.args.from.0) ids) (members_returning (requests_in c.self.inside) c.self.inside.returns c.self.invariant.entries c.self.invariant.returns))

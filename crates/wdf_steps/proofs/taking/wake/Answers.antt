@@ -1,0 +1,23 @@
+-- The frame that goes on is the top one.
+use Rattle.std.proofs.Common.{◌≡◌, ◌∷◌, ◌++◌, [], Some, option_map, ap, sym, ◌∙◌}
+use Rattle.wdf_base.specs.declared.frame.Frame.{Frame}
+use Rattle.wdf_base.specs.declared.ids.FrameId.{FrameId}
+use Rattle.wdf_model.specs.Ids.{frame_id}
+use Rattle.wdf_model.specs.declared.deed.Deed.TheVariants.{GoOn}
+use Rattle.wdf_model.specs.parts.Cpus.{Cpus, frame_of, top}
+use Rattle.wdf_model.specs.rules.Calls.{second_deeds}
+use Rattle.wdf_model.specs.rules.Deeds.{do_deeds}
+use Rattle.wdf_model.specs.rules.Steps.{answered, woke_deeds}
+use Rattle.wdf_steps.proofs.Tops.{on_top}
+use Rattle.wdf_steps.proofs.taking.wake.Goals as goal
+
+pub returns : goal.returns
+returns g c =
+    let plan = c.args.plan.now in
+    let S = c.args.parts.now in
+    let f = c.in-Some.number.0 in
+    let is : top S.cpus c.args.cpu.0 ≡ Some f = sym (ap (λ (C : Cpus). top C c.args.cpu.0) c.cpus.ensures) ∙ sym c.top.ensures ∙ ap (option_map (λ (x : FrameId). x.0)) c.in-Some.is in
+    let after : c.of-after.result ≡ answered plan (frame_of S.cpus f) c.args.value
+    = c.of-after.ensures ∙ c.answered.ensures ∙ ap (λ (F : Frame). answered plan F c.args.value) (c.frame-frame.ensures ∙ ap (λ (C : Cpus). frame_of C f) c.cpus-2.ensures) in
+    on_top plan S c.do_rest.new.parts c.args.cpu.0 f (woke_deeds plan c.args.call.now c.args.value) is
+    (c.do_rest.ensures ∙ ap (λ (F : Frame). do_deeds plan (second_deeds f c.args.call.now ++ GoOn (frame_id f) F ∷ []) S) after)
