@@ -6,6 +6,7 @@ pub mod Spending
 pub mod InUntils
 pub mod FrameUpdate
 pub mod InSlots
+pub mod Fresh
 pub mod Kept
 pub mod Occupied
 pub mod ParkedFor

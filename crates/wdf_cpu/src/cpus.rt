@@ -1,9 +1,11 @@
-ghost use Rattle.std.specs.Prelude.{◌≡◌, [], length, map, replicate, IfOk};
+ghost use Rattle.std.specs.Prelude.{◌≡◌, [], length, map, IfOk};
 ghost use Rattle.std.specs.Option.{option_map};
 ghost use Rattle.wdf_model.specs.parts.Cpus.{opening_cpus, no_frame};
+ghost use Rattle.wdf_cpu.specs.Fresh.{AreFresh, CountNothing};
 ghost use Rattle.wdf_cpu.specs.Keys.{object_key, wait_key};
 ghost use Rattle.wdf_cpu.specs.ParkedFor.{lock_in, lock_key, lock_of_call, takes_wait_lock};
 
+use crate::fresh::{FreshLists, FreshTallies};
 use crate::levels::Levels;
 use crate::slots::FrameSlots;
 use crate::stack::Stack;
@@ -87,18 +89,32 @@ impl Cpus {
     pub fn make(alloc: Global, plan: &Plan) -> Result<Cpus, Memory>
         ensures { IfOk result (λ c. c ≡ opening_cpus plan.now) }
     {
-        Ok(Cpus {
-            frames: FrameSlots::make(alloc)?,
-            stacks: empty_stacks(alloc, plan.cpus())?,
-            parked: Rising::make(alloc, FRAMES)?,
-            levels: Levels::make(alloc)?,
-            live: Vec::with_capacity(alloc, FRAMES as usize)?,
-            peaks: Vec::with_capacity(alloc, FRAMES as usize)?,
-            on: Tally::make(alloc)?,
-            waits: Tally::make(alloc)?,
-            parked_for: Tally::make(alloc)?,
-            untils: Untils::make(alloc)?,
-        })
+        let lists = FreshLists::make(alloc, plan.cpus())?;
+        let frames = FrameSlots::make(alloc)?;
+        let tallies = FreshTallies::make(alloc)?;
+        Ok(Cpus::begun(plan, frames, lists, tallies))
+    }
+
+    /// The processors at the opening, over this memory.
+    fn begun(plan: &Plan, frames: FrameSlots, lists: FreshLists, tallies: FreshTallies) -> Cpus
+        requires frames { frames ≡ [] }
+        requires lists { AreFresh plan.now.cpus lists }
+        requires tallies { CountNothing tallies }
+        ensures { result ≡ opening_cpus plan.now }
+    {
+        let _ = plan;
+        Cpus {
+            frames,
+            stacks: lists.stacks,
+            parked: lists.parked,
+            levels: lists.levels,
+            live: lists.live,
+            peaks: lists.peaks,
+            on: tallies.on,
+            waits: tallies.waits,
+            parked_for: tallies.parked_for,
+            untils: lists.untils,
+        }
     }
 
     /// The processors at the opening of a plan's run once more, where it has as many: each is empty.
@@ -134,20 +150,6 @@ fn clear_each(stacks: &mut [Stack])
     for stack in stacks.iter_mut() {
         stack.clear();
     }
-}
-
-/// The stacks of processors that are empty.
-fn empty_stacks(alloc: Global, cpus: u8) -> Result<Vec<Stack>, Memory>
-    ensures { IfOk result (λ stacks. stacks.items ≡ replicate cpus []) }
-{
-    let mut stacks = Vec::with_capacity(alloc, usize::from(cpus))?;
-    for _cpu in 0..cpus {
-        match Stack::make(alloc) {
-            Ok(stack) => stacks.push_reserved(stack),
-            Err(memory) => return Err(memory),
-        }
-    }
-    Ok(stacks)
 }
 
 /// The object of a frame.

@@ -14,6 +14,7 @@ mod cpus;
 mod frame_test;
 mod frame_update;
 mod frames;
+mod fresh;
 mod levels;
 mod order;
 mod readers;

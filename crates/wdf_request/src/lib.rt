@@ -15,6 +15,7 @@
 
 mod arrivals;
 mod change;
+mod fresh;
 mod keys;
 mod requests;
 

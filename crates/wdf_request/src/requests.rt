@@ -1,4 +1,4 @@
-ghost use Rattle.std.specs.Prelude.{◌≡◌, ◌<◌, ◌≤◌, ◌==◌, IfOk, MatchOption, find, length, max, nat_le, option_map, slice_get};
+ghost use Rattle.std.specs.Prelude.{◌≡◌, ◌<◌, ◌≤◌, ◌==◌, [], IfOk, MatchOption, find, length, max, nat_le, option_map, slice_get, vec_capacity};
 ghost use Rattle.std.specs.List.{list_any};
 ghost use Rattle.wdf_base.specs.Places.{is_returning_to, is_sent_to};
 ghost use Rattle.wdf_model.specs.Tables.{put};
@@ -10,6 +10,7 @@ ghost use Rattle.wdf_maps.specs.Counts.{is_at};
 ghost use Rattle.wdf_model.specs.declared.room.TheConstants.{OBJECTS};
 ghost use Rattle.wdf_sets.specs.Nexts.{IsNext, NoneFrom};
 ghost use Rattle.wdf_request.specs.Closing.{closing_requests, due_requests, is_out};
+ghost use Rattle.wdf_request.specs.Fresh.{AreEmpty, HaveNone};
 
 mod closing;
 mod for_queues;
@@ -18,6 +19,7 @@ use crate::arrivals::Arrivals;
 use crate::change::{
     NO_REQUEST, answer_of_mark, cancelled, forgotten, marked, moved, unmarked, with_mark,
 };
+use crate::fresh::{FreshCounts, FreshSets};
 use crate::keys::{
     due_queue, due_sent_flag, is_back, open_flag, returning_queue, sent_target, unfinished_device,
 };
@@ -77,21 +79,41 @@ impl Requests {
     pub fn make(alloc: Global, plan: &Plan) -> Result<Requests, Memory>
         ensures { IfOk result (λ made. made ≡ requests.no_requests) }
     {
-        Ok(Requests {
-            all: Vec::with_capacity(alloc, OBJECTS as usize)?,
+        let all = Vec::with_capacity(alloc, OBJECTS as usize)?;
+        let arrivals = Arrivals::make(alloc, plan)?;
+        let counts = FreshCounts::make(alloc)?;
+        let sets = FreshSets::make(alloc)?;
+        Ok(Requests::of_none(all, counts, sets, arrivals))
+    }
+
+    /// No request yet, over this memory.
+    fn of_none(
+        all: Vec<Request>,
+        counts: FreshCounts,
+        sets: FreshSets,
+        arrivals: Arrivals,
+    ) -> Requests
+        requires entries { all.items ≡ [] }
+        requires room { OBJECTS ≤ vec_capacity all }
+        requires counts { HaveNone counts }
+        requires sets { AreEmpty sets }
+        ensures { result ≡ requests.no_requests }
+    {
+        Requests {
+            all,
             arrived: 0,
-            returning: Counts::make(alloc)?,
-            sent: Counts::make(alloc)?,
-            unfinished: Counts::make(alloc)?,
+            returning: counts.returning,
+            sent: counts.sent,
+            unfinished: counts.unfinished,
             open_count: 0,
-            closing: IdSet::make(alloc, OBJECTS)?,
-            due: IdSet::make(alloc, OBJECTS)?,
-            sendings: IdSet::make(alloc, OBJECTS)?,
-            returns: IdSet::make(alloc, OBJECTS)?,
-            due_held: Counts::make(alloc)?,
+            closing: sets.closing,
+            due: sets.due,
+            sendings: sets.sendings,
+            returns: sets.returns,
+            due_held: counts.due_held,
             due_sent: 0,
-            arrivals: Arrivals::make(alloc, plan)?,
-        })
+            arrivals,
+        }
     }
 
     /// No request once more.
