@@ -205,8 +205,8 @@ impl Holdings {
             due: Counts::make(alloc)?,
             resumes: Counts::make(alloc)?,
             unasked: Counts::make(alloc)?,
-            unasked_ids: IdSet::make(alloc, OBJECTS)?,
             resuming: Counts::make(alloc)?,
+            unasked_ids: IdSet::make(alloc, OBJECTS)?,
             resuming_ids: IdSet::make(alloc, OBJECTS)?,
         })
     }

@@ -69,8 +69,8 @@ impl Power {
     {
         Ok(Power {
             devices: opening_devices(alloc, plan)?,
-            holdings: Holdings::make(alloc, plan)?,
             held: Links::make(alloc, LISTS, OBJECTS)?,
+            holdings: Holdings::make(alloc, plan)?,
         })
     }
 

@@ -1,12 +1,12 @@
 //! What is kept of requests, as it is made: of none.
-ghost use Rattle.std.specs.Prelude.{◌≡◌, IfOk};
-ghost use Rattle.wdf_request.specs.Fresh.{AreEmpty, HaveNone, no_ids};
+ghost use Rattle.std.specs.Prelude.{IfOk};
+ghost use Rattle.wdf_request.specs.Fresh.{AreEmpty, HaveNone};
 
 use std::alloc::Global;
 use wdf_base::Memory;
 use wdf_maps::Counts;
 use wdf_model::OBJECTS;
-use wdf_sets::IdSet;
+use wdf_sets::{IdSet, four_sets};
 
 /// Counts of no request. They are made apart from the sets: a refusal lets go what was made before it, and each such way is
 /// proved.
@@ -46,8 +46,7 @@ impl FreshSets {
     pub(crate) fn make(alloc: Global) -> Result<FreshSets, Memory>
         ensures { IfOk result AreEmpty }
     {
-        let (closing, due) = two_sets(alloc)?;
-        let (sendings, returns) = two_sets(alloc)?;
+        let (closing, due, sendings, returns) = four_sets(alloc, OBJECTS)?;
         Ok(FreshSets {
             closing,
             due,
@@ -55,13 +54,4 @@ impl FreshSets {
             returns,
         })
     }
-}
-
-/// Two sets of no request.
-fn two_sets(alloc: Global) -> Result<(IdSet, IdSet), Memory>
-    ensures { IfOk result (λ sets. (sets.0 ≡ no_ids) × (sets.1 ≡ no_ids)) }
-{
-    let first = IdSet::make(alloc, OBJECTS)?;
-    let second = IdSet::make(alloc, OBJECTS)?;
-    Ok((first, second))
 }

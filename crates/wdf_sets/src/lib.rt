@@ -4,6 +4,8 @@
 
 mod bits;
 mod id_set;
+mod several;
 mod words;
 
 pub use id_set::IdSet;
+pub use several::{four_sets, two_sets};

@@ -1,7 +1,6 @@
 //! How objects come to be: those that the plan declares, those that calls make, and requests.
 
-ghost use Rattle.std.specs.Prelude.{◌≡◌, ◌<◌, ◌*◌, ◌^◌, ◌++◌, ◌∷◌, [], IfOk, if◌then◌else◌, true, false, is_ok, length, replicate};
-ghost use Rattle.std.specs.Int.{div_ceil};
+ghost use Rattle.std.specs.Prelude.{◌≡◌, ◌<◌, ◌++◌, ◌∷◌, [], IfOk, if◌then◌else◌, true, false, is_ok, length};
 ghost use Rattle.wdf_base.specs.Lives.{is_live};
 ghost use Rattle.wdf_model.specs.parts.Tree as tree;
 ghost use Rattle.wdf_ilist.specs.Family.{is_on_any};
@@ -15,7 +14,7 @@ use std::alloc::Global;
 use wdf_base::{Declared, Kind, Life, Memory, ObjectId, Plan, Value};
 use wdf_ilist::Links;
 use wdf_model::{CELLS, Node, OBJECTS};
-use wdf_sets::IdSet;
+use wdf_sets::{IdSet, four_sets};
 
 /// The driver object.
 pub(super) const DRIVER: ObjectId = ObjectId(1);
@@ -93,24 +92,6 @@ fn join(family: &mut Links, parent: ObjectId, id: u32)
     }
 }
 
-/// Five sets without a member, each with room for as many objects.
-fn empty_sets(alloc: Global, room: u32) -> Result<(IdSet, IdSet, IdSet, IdSet, IdSet), Memory>
-    requires { room < 2 ^ 31 }
-    ensures first { IfOk result (λ sets. sets.0 ≡ replicate (4096 * div_ceil room 4096) false) }
-    ensures second { IfOk result (λ sets. sets.1 ≡ replicate (4096 * div_ceil room 4096) false) }
-    ensures third { IfOk result (λ sets. sets.2 ≡ replicate (4096 * div_ceil room 4096) false) }
-    ensures fourth { IfOk result (λ sets. sets.3 ≡ replicate (4096 * div_ceil room 4096) false) }
-    ensures fifth { IfOk result (λ sets. sets.4 ≡ replicate (4096 * div_ceil room 4096) false) }
-{
-    Ok((
-        IdSet::make(alloc, room)?,
-        IdSet::make(alloc, room)?,
-        IdSet::make(alloc, room)?,
-        IdSet::make(alloc, room)?,
-        IdSet::make(alloc, room)?,
-    ))
-}
-
 impl Tree {
     /// The tree at the opening of the plan's run: the driver object and the declared ones, all live.
     /// It takes the room for all objects that a run can make.
@@ -173,7 +154,8 @@ impl Tree {
         devices.push_reserved(DRIVER);
         let children = Links::make(alloc, room, room)?;
         let waiting = Links::make(alloc, room, room)?;
-        let (asked, cleaned, turns, ends, counted) = empty_sets(alloc, room)?;
+        let counted = IdSet::make(alloc, room)?;
+        let (asked, cleaned, turns, ends) = four_sets(alloc, room)?;
         Ok(Tree {
             limit,
             nodes,

@@ -18,8 +18,8 @@ invariant_of-result c =
       due = rw (empty, c.in_ok-make-2.ensures) (none_counted (due_at qs));
       resumes = rw (empty, c.in_ok-make-3.ensures) (none_counted resume_of);
       unasked = rw (empty, c.in_ok-make-4.ensures) (none_counted unasked_queue);
-      unasked_ids = rw empty (empty_set (λ (h : Holding). is_some (unasked_queue h)) 204800 _ refl (lit≤ tt) c.in_ok-make-5.ensures);
-      resuming = rw (empty, c.in_ok-make-6.ensures) (none_counted resuming_queue);
+      unasked_ids = rw empty (empty_set (λ (h : Holding). is_some (unasked_queue h)) 204800 _ refl (lit≤ tt) c.in_ok-make-6.ensures);
+      resuming = rw (empty, c.in_ok-make-5.ensures) (none_counted resuming_queue);
       resuming_ids = rw empty (empty_set (λ (h : Holding). h.resume_due) 204800 _ refl (lit≤ tt) c.in_ok-make-7.ensures);
     }
 

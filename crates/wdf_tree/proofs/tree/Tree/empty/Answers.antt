@@ -16,7 +16,7 @@ invariant_of-result c =
     let more = c.push_reserved-2.ensures.capacity in
     record {
       kept = kept_at_first _ _ _ _ c.args.room _ _ nodes devices (omega (arith, c.in_ok-nodes.ensures.exact)) (omega (arith, c.in_ok-devices.ensures.exact)) c.requires c.in_ok-children.ensures c.in_ok-waiting.ensures;
-      counted = counted_at_first _ (4096 * div_ceil c.args.room 4096) _ nodes (rw c.requires (lit≤ tt)) c.in_ok-asked.ensures.fifth;
+      counted = counted_at_first _ (4096 * div_ceil c.args.room 4096) _ nodes (rw c.requires (lit≤ tt)) c.in_ok-counted.ensures;
       leaving = leaving_at_first _ (4096 * div_ceil c.args.room 4096) (4096 * div_ceil c.args.room 4096) _ _ nodes (rw c.requires (lit≤ tt)) (rw c.requires (lit≤ tt)) c.in_ok-asked.ensures.first c.in_ok-asked.ensures.second;
       turns = turns_at_first _ _ (4096 * div_ceil c.args.room 4096) _ nodes (rw c.requires (lit≤ tt)) c.in_ok-asked.ensures.third;
       ends = ends_at_first _ _ (4096 * div_ceil c.args.room 4096) _ nodes (rw c.requires (lit≤ tt)) c.in_ok-asked.ensures.fourth;
