@@ -18,6 +18,9 @@
 //!   be the only one that can go on, and all others would wait for it.
 //! - **How does who waits for the workers learn that they have ended?** One seat takes the value once more and tells it. The
 //!   turnstile isn't closed for that: a closure that holds a turnstile can't be proved, one that borrows it can.
+//! - **Why are `Side` of `wdf_ready` and `Crew` of `wdf_crew` two enums with the same rows?** Neither crate stands on
+//!   the other: the search for events knows of no threads, and the workers carry on any history. They meet in
+//!   `wdf_workers`, where a match turns one into the other. Below both there is only `wdf_base`.
 #![tactic(auto)]
 
 mod advance;

@@ -9,6 +9,10 @@
 //! - **What of large runs?** Past [`MERGED_FROM`] events shapes of a pixel or two are merged into blocks. All shapes are
 //!   in the page too, as rows of fields, from which the script makes those that a zoom shows.
 //! - **How does text of the trace reach the page?** By `Page::text` of `wdf_page` alone.
+//! - **Why is each event as wide as any other?** Between two ticks any number of events may come, and nothing says
+//!   how long one takes. So time is a lane of its own, and the ticks are columns.
+//! - **Why isn't the page's script in Rattle?** A browser runs JavaScript. It moves and dims what the page already
+//!   has, and the page is whole without it. `tools/check_view.py` looks at it in a browser, outside the gate.
 #![tactic(auto)]
 
 mod cpus;

@@ -4,8 +4,10 @@
 //! # Choices
 //!
 //! - **Who builds tables over a plan?** `IndexedPlan` of `wdf_plan_index`, once, before a run. It has the ids of the
-//!   devices and of the targets, what belongs to each device, and the scripts by the names of their owners. Its model
-//!   is the plan itself, so no contract speaks of tables, and more of them change no contract.
+//!   devices and of the targets, what belongs to each device, the scripts by the names of their owners, and which
+//!   handler each queue has for each kind of request. Its model is the plan itself, so no contract speaks of tables,
+//!   and more of them change no contract.
+//! - **Who asks `wdf_declared` instead?** Who has a plan and no tables: the parts and the agents, as they are made.
 #![tactic(auto)]
 
 mod agents;
