@@ -1,4 +1,5 @@
 pub mod Openings
 pub mod Places
 pub mod Cleared
+pub mod Rising
 pub mod Sums

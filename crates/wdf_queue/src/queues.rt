@@ -1,4 +1,5 @@
-ghost use Rattle.std.specs.Prelude.{◌≡◌, ℕ, ◌+◌, ◌<◌, ◌≤◌, IfOk, None, Some, if◌then◌else◌, drop, false, is_some, length, option_map, replicate, slice_get};
+ghost use Rattle.std.specs.Prelude.{◌≡◌, ℕ, ◌+◌, ◌<◌, ◌≤◌, ◌++◌, ◌∷◌, [], IfOk, IsTrue, None, Some, if◌then◌else◌, drop, false, is_some, length, option_map, replicate, slice_get, true};
+ghost use Rattle.wdf_maps.specs.Places.{rises};
 ghost use Rattle.wdf_model.specs.Tables.{put};
 ghost use Rattle.wdf_model.specs.parts.Queues as queues;
 ghost use Rattle.wdf_model.specs.parts.Queues.{held_count, held_in, is_waiting, waiting_in};
@@ -21,6 +22,8 @@ pub struct Queues {
     waiting: Links,
     /// How many requests from each queue the driver holds, by id.
     held: Vec<u32>,
+    /// Whether the waiting list of each queue is known to rise, by id. False says nothing.
+    rising: Vec<bool>,
 }
 
 impl Model for Queues {
@@ -47,6 +50,7 @@ impl Queues {
             dispatch: opening_dispatches(alloc, plan)?,
             waiting: Links::make(alloc, ids, OBJECTS)?,
             held: no_counts(alloc, ids as usize)?,
+            rising: all_rising(alloc, ids as usize)?,
         })
     }
 
@@ -79,6 +83,14 @@ impl Queues {
         ensures { result ≡ queues.is_empty_queue self.now q.0 }
     {
         self.waiting.is_empty(q.0)
+    }
+
+    /// Whether the requests that wait in a queue are known to rise by id, from the front on. False
+    /// says nothing.
+    pub fn is_rising(&self, q: ObjectId) -> bool
+        ensures { IsTrue result → rises (λ x. x) 0 OBJECTS (waiting_in self.now q.0) ≡ true }
+    {
+        entry_at(&self.rising, false, q.0)
     }
 
     /// Whether a request waits in some queue.
@@ -125,6 +137,29 @@ impl Queues {
         is_free_by(dispatch, self.held_count(q))
     }
 
+    /// Whether a queue's requests are known to rise by id with this one at the tail.
+    #[tactic(auto, using(crate::proofs::Rising::alone_last, crate::proofs::Rising::with_last))]
+    fn rises_with_last(&self, q: ObjectId, r: ObjectId) -> bool
+        requires { r.0 < OBJECTS }
+        ensures { IsTrue result → rises (λ x. x) 0 OBJECTS (waiting_in self.now q.0 ++ r.0 ∷ []) ≡ true }
+    {
+        let Some(last) = self.waiting.back(q.0) else {
+            return true
+        };
+        last < r.0 && self.is_rising(q)
+    }
+
+    /// Whether a queue's requests are known to rise by id with this one at the head.
+    fn rises_with_first(&self, q: ObjectId, r: ObjectId) -> bool
+        requires { r.0 < OBJECTS }
+        ensures { IsTrue result → rises (λ x. x) 0 OBJECTS (r.0 ∷ waiting_in self.now q.0) ≡ true }
+    {
+        let Some(first) = self.waiting.front(q.0) else {
+            return true
+        };
+        r.0 < first && self.is_rising(q)
+    }
+
     /// A request enters a queue at the tail.
     #[tactic(auto, using(wdf_model::proofs::Maps::put_within))]
     pub fn enter(&mut self, q: ObjectId, r: ObjectId)
@@ -133,6 +168,7 @@ impl Queues {
         requires apart { is_waiting self.old r.0 ≡ false }
         ensures { self.new ≡ queues.enter self.old q.0 r.0 }
     {
+        self.rising[q.0 as usize] = self.rises_with_last(q, r);
         self.waiting.push_back(q.0, r.0);
     }
 
@@ -144,6 +180,7 @@ impl Queues {
         requires apart { is_waiting self.old r.0 ≡ false }
         ensures { self.new ≡ queues.requeue self.old q.0 r.0 }
     {
+        self.rising[q.0 as usize] = self.rises_with_first(q, r);
         self.waiting.push_front(q.0, r.0);
     }
 
@@ -236,4 +273,11 @@ fn no_counts(alloc: Global, ids: usize) -> Result<Vec<u32>, Memory>
     ensures { IfOk result (λ counts. counts.items ≡ replicate ids 0) }
 {
     Ok(vec![in alloc; 0; ids]?)
+}
+
+/// A mark for each id: a list without requests rises.
+fn all_rising(alloc: Global, ids: usize) -> Result<Vec<bool>, Memory>
+    ensures { IfOk result (λ marks. marks.items ≡ replicate ids true) }
+{
+    Ok(vec![in alloc; true; ids]?)
 }

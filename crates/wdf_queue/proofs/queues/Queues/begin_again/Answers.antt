@@ -4,6 +4,7 @@ use Rattle.std.proofs.lemmas.List.{length-replicate}
 use Rattle.wdf_ilist.specs.Family.{Family}
 use Rattle.wdf_model.specs.parts.Queues.{Queues}
 use Rattle.wdf_queue.proofs.Openings.{length-dispatch, opened}
+use Rattle.wdf_queue.proofs.Rising.{marked_empty}
 use Rattle.wdf_queue.proofs.queues.Queues.begin_again.Goals as goal
 
 pub write_dispatches-requires : goal.write_dispatches-requires
@@ -19,6 +20,8 @@ invariant_of-self c =
       lists = rw (c.clear.ensures, c.write_dispatches.ensures, length-replicate, long) (c.self.invariant.lists ∙ many);
       counts = rw (c.zero_counts.ensures, c.write_dispatches.ensures, length-replicate, long) (c.self.invariant.counts ∙ many);
       room = rw c.clear.ensures c.self.invariant.room;
+      marks = rw (c.write_dispatches.ensures, long) (c.self.invariant.marks ∙ many);
+      rising = rw c.clear.ensures (marked_empty c.self.inside.rising.items (length c.self.inside.waiting.lists));
     }
 
 pub returns : goal.returns

@@ -3,6 +3,7 @@ use Rattle.std.proofs.Common.{◌≡◌, ◌+◌, length, refl, ap, arith}
 use Rattle.std.proofs.lemmas.List.{length-replicate}
 use Rattle.wdf_ilist.specs.Family.{Family}
 use Rattle.wdf_queue.proofs.Openings.{length-dispatch, opened}
+use Rattle.wdf_queue.proofs.Rising.{marked_empty}
 use Rattle.wdf_queue.proofs.queues.Queues.make.Goals as goal
 
 pub invariant_of-result : goal.invariant_of-result
@@ -14,6 +15,8 @@ invariant_of-result c =
       lists = rw (c.in_ok-make.ensures, c.in_ok-opening_dispatches.ensures, length-replicate, long) refl;
       counts = rw (c.in_ok-no_counts.ensures, c.in_ok-opening_dispatches.ensures, length-replicate, long) refl;
       room = rw c.in_ok-make.ensures refl;
+      marks = rw (c.in_ok-all_rising.ensures, c.in_ok-opening_dispatches.ensures, length-replicate, long) refl;
+      rising = rw c.in_ok-make.ensures (marked_empty c.in_ok-all_rising.field-0.items ids);
     }
 
 pub returns : goal.returns
