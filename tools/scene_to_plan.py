@@ -612,7 +612,7 @@ use Rattle.law_machine_base.proofs.Course.{worked_with}
 use Rattle.law_stack.specs.Laws.{keeps_stack_laws}
 use Rattle.law_stack.specs.Words.{passings, works}
 use Rattle.law_stack_worked.specs.Shown.{IsStackRun}
-use Rattle.law_stack_worked.proofs.Ended.{over}
+use Rattle.law_machine_worked.proofs.Ended.{over}
 """
 
 # Runs in which idle devices sleep.
@@ -623,7 +623,7 @@ use Rattle.wdf_model.specs.agents.IdleAgent.{idle_agents}
 use Rattle.wdf_model.specs.rules.Script.{value_of}
 use Rattle.law_machine_base.specs.Course.{run_with}
 use Rattle.law_machine_base.proofs.Course.{worked_with}
-use Rattle.law_idle_worked.proofs.Ended.{over}
+use Rattle.law_machine_worked.proofs.Ended.{over}
 use Rattle.wdf_laws.specs.Words.{ever}
 use Rattle.law_idle.specs.Idling.{time_after, awake_rest, asleep_rest, is_held}
 use Rattle.law_idle_worked.specs.Shown.{IsIdleRun}

@@ -1,10 +1,11 @@
 -- The first event that breaks the law, and that there is none where each keeps it.
-use Rattle.std.proofs.Common.{◌≡◌, ◌↔◌, ◌<◌, ◌⊎◌, inl, inr, ℕ, suc, ◌+◌, ◌==◌, Bool, true, false, not, List, [], length, map, option_map, slice_get, take, Option, Some, None, Result, Ok, Err, IfOk, IsNone, refl, sym, ap, ◌∙◌, arith}
+use Rattle.std.proofs.Common.{◌≡◌, ◌↔◌, ◌<◌, ◌⊎◌, inl, inr, ℕ, suc, ◌+◌, ◌==◌, Bool, false, not, List, [], length, map, option_map, slice_get, take, Option, Some, None, Result, Ok, Err, IfOk, IsNone, refl, sym, ap, ◌∙◌, arith}
 use Rattle.std.specs.List.{list_all}
 use Rattle.std.proofs.lemmas.Option.{slice_get_within}
 use Rattle.wdf_base.specs.Resolved.{IsResolved}
 use Rattle.wdf_base.specs.declared.plan.Plan.{Plan}
 use Rattle.wdf_base.specs.declared.event.Event.{Event}
+use Rattle.wdf_base.proofs.Tests.{not_false}
 use Rattle.wdf_model.specs.rules.Ready.{IsRunOf}
 use Rattle.wdf_model.proofs.Counts.{one_or_two}
 use Rattle.wdf_model.proofs.Runs.{take_next}
@@ -59,12 +60,8 @@ pub first_of : (plan : Plan) (all : List Event) (found : Option ℕ) → IsFirst
 first_of plan all None h = sym (ap (option_map suc) (first_none (breaks_at plan all) (length all) h))
 first_of plan all (Some n) h = ap Some h.1 ∙ sym (ap (option_map suc) (first_is (breaks_at plan all) (length all) h.0 h.2 h.4 h.3) ∙ (let next : suc h.0 ≡ h.0 + 1 = omega arith in ap Some next))
 
-not_so : (b : Bool) → not b ≡ false → b ≡ true
-not_so true h = refl
-not_so false h = absurd (let z : ⊥ = cc in z)
-
 kept_by : (plan : Plan) (all : List Event) → NoneBefore plan all (length all) → KeepsIdleLaw plan all
-kept_by plan all h k e at = not_so (keeps_idle_law plan (take k all) e) (sym (ap (breaks_law plan (take k all)) at) ∙ h k (slice_get_within all k e at))
+kept_by plan all h k e at = not_false (keeps_idle_law plan (take k all) e) (sym (ap (breaks_law plan (take k all)) at) ∙ h k (slice_get_within all k e at))
 
 breaks_not : (plan : Plan) (all : List Event) → KeepsIdleLaw plan all → (k : ℕ) (o : Option Event) → slice_get all k ≡ o → breaks_law plan (take k all) o ≡ false
 breaks_not plan all h k None at = refl

@@ -5,9 +5,10 @@ use Rattle.std.proofs.lemmas.Bool.{eqb-true}
 use Rattle.std.proofs.lemmas.Bool.Decides.{nat_tests}
 use Rattle.std.proofs.lemmas.List.FromFn.{get_or-range_with_len, length-range_with_len}
 use Rattle.std.proofs.lemmas.List.Sums.{position_or_len_is}
-use Rattle.wdf_base.proofs.Tests.{both_left, both_right, both}
+use Rattle.wdf_base.proofs.Tests.{both_left, both_right}
 use Rattle.wdf_model.proofs.Counts.{equal}
 use Rattle.law_stuck_causes.proofs.Members.{Has}
+use Rattle.law_stuck_causes.proofs.Stages.{each_one}
 use Rattle.law_idle.proofs.Pending.{same_so}
 
 -- ---- what is kept
@@ -55,10 +56,6 @@ asked_of p x [] h k = absurd k
 asked_of p x (y ∷ ys) h (inl e) = rw e (both_left (p y) (list_all p ys) h)
 asked_of p x (y ∷ ys) h (inr k) = asked_of p x ys (both_right (p y) (list_all p ys) h) k
 
-asked_each : (p : ℕ → Bool) (xs : List ℕ) → ((x : ℕ) → Has x xs → p x ≡ true) → list_all p xs ≡ true
-asked_each p [] h = refl
-asked_each p (x ∷ xs) h = both (p x) (list_all p xs) (h x (inl refl)) (asked_each p xs (λ y k. h y (inr k)))
-
 -- a test of those that take part, asked of one list, and asked of another that has them all, as far as they are in the first
 module _ (part here verdict : ℕ → Bool) (ids all : List ℕ) (there : (d : ℕ) → part d ≡ true → Has d ids) (into : (d : ℕ) → here d ≡ true → Has d all) (from : (d : ℕ) → Has d all → here d ≡ true) where
   onwards : (d : ℕ) (a b : Bool) → part d ≡ a → here d ≡ b → list_all (λ x. not (part x) || verdict x) all ≡ true → (not (part d) || (not (here d) || verdict d)) ≡ true
@@ -73,8 +70,8 @@ module _ (part here verdict : ℕ → Bool) (ids all : List ℕ) (there : (d : �
   pub asked_within : list_all (λ x. not (part x) || verdict x) all ≡ list_all (λ x. not (part x) || (not (here x) || verdict x)) ids
   asked_within =
       same_so (list_all (λ x. not (part x) || verdict x) all) (list_all (λ x. not (part x) || (not (here x) || verdict x)) ids)
-      (λ h. asked_each (λ x. not (part x) || (not (here x) || verdict x)) ids (λ d k. onwards d (part d) (here d) refl refl h))
-      (λ h. asked_each (λ x. not (part x) || verdict x) all (λ d k. back d (part d) refl k h))
+      (λ h. each_one (λ x. not (part x) || (not (here x) || verdict x)) ids (λ d k. onwards d (part d) (here d) refl refl h))
+      (λ h. each_one (λ x. not (part x) || verdict x) all (λ d k. back d (part d) refl k h))
 
 -- a test of one that takes part, asked of a list that has it
 module _ (part verdict : ℕ → Bool) (d : ℕ) (ids : List ℕ) (there : part d ≡ true → Has d ids) where
@@ -93,7 +90,7 @@ module _ (part verdict : ℕ → Bool) (d : ℕ) (ids : List ℕ) (there : part 
   pub asked_of_one : (not (part d) || verdict d) ≡ list_all (λ x. not (part x) || (not (d == x) || verdict x)) ids
   asked_of_one =
       same_so (not (part d) || verdict d) (list_all (λ x. not (part x) || (not (d == x) || verdict x)) ids)
-      (λ h. asked_each (λ x. not (part x) || (not (d == x) || verdict x)) ids (λ x k. onwards_by x (d == x) refl h))
+      (λ h. each_one (λ x. not (part x) || (not (d == x) || verdict x)) ids (λ x k. onwards_by x (d == x) refl h))
       (λ h. back_by (part d) refl h)
 
 -- ---- the first number of a range that passes

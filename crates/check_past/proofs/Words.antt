@@ -7,15 +7,8 @@ use Rattle.wdf_laws.specs.declared.sign.Sign.{Sign}
 use Rattle.wdf_laws.specs.declared.sign.Moment.{Moment}
 use Rattle.wdf_laws.specs.Signs.{shows}
 use Rattle.wdf_laws.specs.Words.{came_step, ever, times, stands_step, stands, moment_step, stood_at}
-use Rattle.wdf_model.proofs.Runs.{take_next}
+use Rattle.wdf_model.proofs.Runs.{take_next, take_ended}
 use Rattle.check_past.specs.Last.{shows_in, last, stood}
-
--- a list with no item at k
-pub take_same : {E : Type 0} (xs : List E) (k : ℕ) → slice_get xs k ≡ None → take (suc k) xs ≡ take k xs
-take_same [] zero h = refl
-take_same [] (suc k) h = refl
-take_same (x ∷ xs) zero h = absurd (let z : ⊥ = cc in z)
-take_same (x ∷ xs) (suc k) h = ap (λ rest. x ∷ rest) (take_same xs k h)
 
 -- one step, where there is an event
 abbrev pub step_in : {B : Type 0} → (B → Event → B) → B → Option Event → B
@@ -24,7 +17,7 @@ step_in step b (Some e) = step b e
 
 next_by : {B : Type 0} (f : List Event → B) (step : B → Event → B) → ((es : List Event) (e : Event) → f (es ++ e ∷ []) ≡ step (f es) e)
     → (all : List Event) (k : ℕ) (o : Option Event) → slice_get all k ≡ o → f (take (suc k) all) ≡ step_in step (f (take k all)) o
-next_by f step grows all k None h = ap f (take_same all k h)
+next_by f step grows all k None h = ap f (take_ended all k h)
 next_by f step grows all k (Some e) h = ap f (take_next all k e h) ∙ grows (take k all) e
 
 -- a word over one event more

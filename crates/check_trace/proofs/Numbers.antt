@@ -12,23 +12,7 @@ use Rattle.wdf_laws.specs.Frames.{Frames, frames_step, frames_after, no_frames}
 
 pub number_step : (F : Frames) (e : Event) → (frames_step F e).number ≡ F.number + 1
 number_step F (event.Start cpu c o r) = refl
-number_step F (event.Local cpu line) = refl
-number_step F (event.Log cpu v) = refl
-number_step F (event.Spend cpu n) = refl
-number_step F (event.Register cpu a k v) = refl
-number_step F (event.Did cpu c v) = refl
-number_step F (event.Waiting cpu c) = refl
-number_step F (event.Woke cpu c v) = refl
-number_step F (event.Park cpu f) = refl
-number_step F (event.Unpark cpu f) = refl
-number_step F (event.End cpu c o v) = refl
-number_step F (event.Fault cpu x line) = refl
-number_step F (event.Stage d s i) = refl
-number_step F (event.Complete q s) = refl
-number_step F (event.Cleanup o) = refl
-number_step F (event.Destroy o) = refl
-number_step F (event.Posted agent p answer) = refl
-number_step F (event.Tick t) = refl
+number_step F _ = refl
 
 number_along : (F : Frames) (es : List Event) → (fold frames_step F es).number ≡ F.number + length es
 number_along F [] = omega arith

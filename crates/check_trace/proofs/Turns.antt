@@ -15,13 +15,13 @@ use Rattle.wdf_laws.specs.Signs.{shows}
 use Rattle.wdf_laws.specs.Words.{ever}
 use Rattle.wdf_laws.specs.Events.{is_id, where_so}
 use Rattle.wdf_laws.specs.Laws.{came_at_head, is_in_order, waited, is_in_turn, presented_in, all_in_turn, is_presented_in_turn}
-use Rattle.wdf_model.proofs.Runs.{take_next, slice_get-take}
+use Rattle.wdf_model.proofs.Runs.{take_next, slice_get-take, take_ended}
 use Rattle.check_past.specs.declared.shown.Shown.{Shown}
 use Rattle.check_past.specs.Last.{shows_in, last}
 use Rattle.check_trace.specs.Order.{covers, is_next}
 use Rattle.check_past.specs.Order.{shown_by, with_entry, tail_entry, with_number, tail_number, with_head, heads}
 use Rattle.check_past.specs.Past.{Read, before}
-use Rattle.check_past.proofs.Words.{take_same, ever_next, ever_last, stands_last, last_within}
+use Rattle.check_past.proofs.Words.{ever_next, ever_last, stands_last, last_within}
 
 -- ---- when a sign came last, in a part of the events
 
@@ -61,7 +61,7 @@ no_more p all k n h =
 
 ever_more : (p : Sign) (all : List Event) (k m : ℕ) (o : Option Event) → slice_get all m ≡ o → k ≤ m → ever p (drop k (take m all)) ≡ nat_lt k (last p all m)
     → ever p (drop k (take (suc m) all)) ≡ nat_lt k (if shows_in p o then suc m else last p all m)
-ever_more p all k m None h le so_far = ap (λ es. ever p (drop k es)) (take_same all m h) ∙ so_far
+ever_more p all k m None h le so_far = ap (λ es. ever p (drop k es)) (take_ended all m h) ∙ so_far
 ever_more p all k m (Some e) h le so_far =
     let within : m < length all = slice_get_within all m e h in
     let enough : k ≤ length (take m all) = simp length-take (omega arith) in

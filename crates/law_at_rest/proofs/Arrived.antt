@@ -52,6 +52,7 @@ use Rattle.wdf_dev.specs.Agents.{agent_meaning}
 use Rattle.wdf_dev.specs.declared.any.AnyAgent.{AnyAgent}
 use Rattle.wdf_dev.specs.declared.any.AnyAgent.TheVariants as agent
 use Rattle.law_machine_base.proofs.Follows.{follows, state_goes_on}
+use Rattle.law_machine_base.proofs.KeptByDeeds.{is_arrival}
 use Rattle.law_machine_deeds.specs.MayDo.{is_request, may_do, posts}
 use Rattle.law_machine_deeds.proofs.Passing.{event_passes}
 use Rattle.law_stuck_causes.proofs.Endings.{at_the_end}
@@ -59,10 +60,6 @@ use Rattle.law_at_rest.proofs.Agents.{AllHave, agents_after, told_as}
 use Rattle.law_at_rest.proofs.Itself.{HasLines, IsItself, itself}
 
 -- ---- how many arrive by a deed
-
-abbrev is_arrival : Deed → Bool
-is_arrival (Arrive device info p) = true
-is_arrival _ = false
 
 -- as many have arrived as before
 abbrev Same : {A : Type 0} → State A → State A → Type 0

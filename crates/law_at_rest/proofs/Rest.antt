@@ -23,19 +23,16 @@ use Rattle.wdf_model.specs.rules.Groups.{posted}
 use Rattle.wdf_model.specs.rules.Posts.{due_of, may_post, post_answer, post_fits}
 use Rattle.wdf_model.specs.rules.Ready.{any_spends, ending_of, state_after}
 use Rattle.wdf_model.proofs.Sames.{handle_decides, status_decides}
-use Rattle.wdf_model.proofs.Tests.{itself}
+use Rattle.wdf_model.proofs.Tests.{itself, either_false}
 use Rattle.law_stuck_causes.proofs.Endings.{AtRest, at_rest, may_not}
 use Rattle.law_stuck_causes.proofs.Needs.{framework_group, placed_at}
+use Rattle.law_stuck_causes.proofs.Stages.{handle_itself as answer_itself}
 use Rattle.law_at_rest.specs.Rest.{NothingComes}
 
 -- ---- a post is the same as itself
 
 handle_itself : (h : Handle) → same_handle h h ≡ true
 handle_itself h = (handle_decides h h).1 refl
-
-answer_itself : (a : Option Handle) → same_option same_handle a a ≡ true
-answer_itself None = refl
-answer_itself (Some h) = handle_itself h
 
 action_itself : (a : Action) → same_action a a ≡ true
 action_itself (action.Set r n) = and_from (r == r) (n == n) (itself r) (itself n)
@@ -61,18 +58,14 @@ post_itself (post.Done r s) = and_from (same_handle r r) (same_status s s) (hand
 
 -- ---- time
 
-either : (a b : Bool) → (a || b) ≡ false → (a ≡ false) × (b ≡ false)
-either false b h = (refl, h)
-either true b h = absurd (let z : ⊥ = cc in z)
-
 none_of : {T : Type 0} (o : Option T) → is_some o ≡ false → o ≡ None
 none_of None h = refl
 none_of (Some x) h = absurd (let z : ⊥ = cc in z)
 
 no_one : {T : Type 0} (p : T → Bool) (xs : List T) (k : ℕ) (x : T) → list_any p xs ≡ false → slice_get xs k ≡ Some x → p x ≡ false
 no_one p [] k x h at = absurd (let z : ⊥ = cc in z)
-no_one p (y ∷ ys) zero x h at = ap p (sym (same_Some y x at)) ∙ (either (p y) (list_any p ys) h).0
-no_one p (y ∷ ys) (suc k) x h at = no_one p ys k x (either (p y) (list_any p ys) h).1 at
+no_one p (y ∷ ys) zero x h at = ap p (sym (same_Some y x at)) ∙ (either_false (p y) (list_any p ys) h).0
+no_one p (y ∷ ys) (suc k) x h at = no_one p ys k x (either_false (p y) (list_any p ys) h).1 at
 
 -- ---- posts
 
@@ -98,8 +91,8 @@ module _ {A : Type 0} (plan : Plan) (m : Meaning A) (S : State A) (any : Bool) (
 
   quiet : NothingComes plan m S
   quiet =
-      let first = either (any_spends S || any_later_timer S.timers S.clock) (list_any (λ a. is_some (m.next a)) S.agents) rest.untimed in
-      let second = either (any_spends S) (any_later_timer S.timers S.clock) first.0 in
+      let first = either_false (any_spends S || any_later_timer S.timers S.clock) (list_any (λ a. is_some (m.next a)) S.agents) rest.untimed in
+      let second = either_false (any_spends S) (any_later_timer S.timers S.clock) first.0 in
       record {
         spends = second.0;
         timers = second.1;

@@ -13,14 +13,11 @@ use Rattle.law_machine_base.specs.FactsOfEvents.{IsTick}
 use Rattle.wdf_model.proofs.Runs.{take_next}
 use Rattle.law_machine_base.proofs.Follows.{follows, state_goes_on}
 use Rattle.law_free_runs.specs.FreeRuns.{IsFreeRun}
+use Rattle.law_free_runs.proofs.Places.{first_state}
 
 either : {A : Type 0} (plan : Plan) (m : Meaning A) (S : State A) (es : List Event) (e : Event) → (may plan m S e ≡ true) ⊎ IsTick m S es e → (may plan m S e ≡ true) ⊎ ((time : ℕ) × (e ≡ event.Tick time))
 either plan m S es e (inl h) = inl h
 either plan m S es e (inr t) = inr (S.clock + 1, t.tick)
-
-opens_at : {A : Type 0} (plan : Plan) (m : Meaning A) → state_after plan m [] ≡ opening plan m
-unfolding state_after
-opens_at plan m = refl
 
 next_state : {A : Type 0} (plan : Plan) (m : Meaning A) (run : List Event) (k : ℕ) (e : Event) → slice_get run k ≡ Some e → state_after plan m (take (k + 1) run) ≡ after plan m (state_after plan m (take k run)) e
 next_state plan m run k e h =
@@ -40,7 +37,7 @@ unfolding IsRun
 runs_are_free {A} plan m run is_run = record {
   states = λ k. state_after plan m (take k run);
   meaning = m;
-  opens = opens_at plan m;
+  opens = first_state plan m;
   goes = λ k e h. record {
     meaning = m;
     may_come = either plan m (state_after plan m (take k run)) (ready plan m (take k run)) e (follows plan m (take k run) (is_run k e h).0 e (is_run k e h).1);

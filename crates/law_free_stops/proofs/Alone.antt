@@ -1,29 +1,21 @@
 -- Two frames that are there with one lock of their own are one: at each place of a free run.
-use Rattle.std.proofs.Common.{◌≡◌, ◌≢◌, ℕ, ◌==◌, ◌≤◌, Bool, true, false, not, ◌&&◌, List, [], ◌∷◌, inl, inr, Some, count_by, length, refl, sym, ap, ◌∙◌, arith}
+use Rattle.std.proofs.Common.{◌≡◌, ◌≢◌, ℕ, ◌==◌, ◌≤◌, true, false, not, ◌&&◌, List, inl, inr, Some, length, refl, sym, ◌∙◌, arith}
 use Rattle.std.proofs.lemmas.Bool.{eqb-true}
 use Rattle.wdf_base.specs.declared.plan.Plan.{Plan}
 use Rattle.wdf_base.specs.declared.event.Event.{Event}
 use Rattle.wdf_base.specs.declared.object.LockRef.{LockRef}
 use Rattle.wdf_base.specs.Same.{same_lock}
 use Rattle.wdf_model.specs.declared.entries.Held.{Held}
-use Rattle.wdf_model.specs.Tables.{flag}
 use Rattle.wdf_model.specs.State.{State}
-use Rattle.wdf_model.proofs.Counts.{count_cons, not_equal, one_or_two}
+use Rattle.wdf_model.proofs.Counts.{not_equal, one_or_two}
 use Rattle.wdf_model.proofs.FrameCounts.{on}
 use Rattle.wdf_model.proofs.Tests.{both, both_left, both_right}
 use Rattle.law_machine_lives.proofs.Sound.{lock_of_frame}
 use Rattle.law_trace_scopes.proofs.Holding.{is_other_hold, is_own_hold, not_own}
+use Rattle.law_trace_scopes.proofs.Frames.{fewer}
 use Rattle.law_free_runs.specs.FreeRuns.{IsFreeRun}
 use Rattle.law_free_runs.proofs.FreeStates.{FreeState, free_state}
 use Rattle.law_free_stops.specs.LocksApart.{LocksApart}
-
-flag_less : (a b : Bool) → (a ≡ true → b ≡ true) → flag a ≤ flag b
-flag_less true b w = let e : flag b ≡ 1 = ap flag (w refl) in omega arith
-flag_less false b w = omega arith
-
-more_of : (p q : Held → Bool) → ((h : Held) → p h ≡ true → q h ≡ true) → (hs : List Held) → count_by p hs ≤ count_by q hs
-more_of p q w [] = omega arith
-more_of p q w (h ∷ hs) = let a = count_cons p h hs in let b = count_cons q h hs in let rest = more_of p q w hs in let one = flag_less (p h) (q h) (w h) in omega arith
 
 -- what one frame holds since its start another doesn't
 own_other : (l : LockRef) (f g : ℕ) → f ≢ g → (h : Held) → is_own_hold l g h ≡ true → is_other_hold l f h ≡ true
@@ -39,7 +31,7 @@ one_frame plan S k f g l f_there g_there f_is g_is = elim (one_or_two f g) [
   | inr n ↦ absurd (
       let mine = k.agrees.holds f (λ z. z) f_there l f_is in
       let theirs = k.agrees.holds g (λ z. z) g_there l g_is in
-      let more = more_of (is_own_hold l g) (is_other_hold l f) (own_other l f g n) S.locks.held in
+      let more = fewer (is_own_hold l g) (is_other_hold l f) (own_other l f g n) S.locks.held in
       not_own S.locks l f k.once (omega arith) mine)
 ]
 

@@ -5,7 +5,7 @@ use Rattle.wdf_model.specs.agents.IdleAgent.{idle_agents}
 use Rattle.wdf_model.specs.rules.Script.{value_of}
 use Rattle.law_machine_base.specs.Course.{run_with}
 use Rattle.law_machine_base.proofs.Course.{worked_with}
-use Rattle.law_idle_worked.proofs.Ended.{over}
+use Rattle.law_machine_worked.proofs.Ended.{over}
 use Rattle.wdf_laws.specs.Words.{ever}
 use Rattle.law_idle.specs.Idling.{time_after, awake_rest, asleep_rest, is_held}
 use Rattle.law_idle_worked.specs.Shown.{IsIdleRun}

@@ -1,4 +1,3 @@
-mod Ended
 pub mod IdleRuns
 pub mod Broken
 pub mod Longest

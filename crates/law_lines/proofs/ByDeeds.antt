@@ -41,7 +41,7 @@ use Rattle.wdf_model.proofs.Maps.{entry_before, entry_last, entry_map, entry_put
 use Rattle.law_machine_lives.proofs.Lists.{Each}
 use Rattle.law_machine_lives.proofs.PartsStay.{tree_stays}
 use Rattle.law_machine_lives.proofs.QuietMoves.{quiet_cpus}
-use Rattle.law_machine_lives.proofs.Readers.{tree_of}
+use Rattle.law_machine_lives.proofs.Readers.{tree_of, requests_of}
 use Rattle.law_machine_lives.proofs.Stays.{asks_all, given, given_if, gives_up}
 use Rattle.wdf_trace.specs.Events.{IsValueOf}
 use Rattle.law_lines.proofs.ProperNames.{some_name}
@@ -211,9 +211,6 @@ forgets R r each x = elim (one_or_two x r) [
       rw e (subst (λ (q : Request). HasSmallNumbers q.info) (sym here) (either_small (is_over (request_of R r)) no_request (request_of R r) none_small (each r)))
   | inr n ↦ subst (λ (q : Request). HasSmallNumbers q.info) (sym (entry_set_other no_request R.all r x (forgotten (request_of R r)) n)) (each x)
 ]
-
-abbrev requests_of : {A : Type 0} → State A → Requests
-requests_of S = S.requests
 
 same_small : (R U : Requests) → U ≡ R → AreSmall R → AreSmall U
 same_small R U e each = subst (λ (V : Requests). AreSmall V) (sym e) each

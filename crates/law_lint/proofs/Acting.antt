@@ -1,5 +1,5 @@
 -- What a frame is about to do, where a walk's state goes with it and breaks no rule: no fault of requests, and a step of the walk.
-use Rattle.std.proofs.Common.{◌≡◌, ℕ, Bool, true, false, not, ◌&&◌, Option, Some, None, unwrap_or, slice_get, refl, ap, subst, ◌∙◌}
+use Rattle.std.proofs.Common.{◌≡◌, ℕ, Bool, true, false, not, Option, Some, None, unwrap_or, slice_get, refl, ap, subst, ◌∙◌}
 use Rattle.wdf_base.specs.declared.plan.Plan.{Plan}
 use Rattle.wdf_base.specs.declared.ids.Handle.{Handle}
 use Rattle.wdf_base.specs.declared.value.Value.{Value}
@@ -27,7 +27,7 @@ use Rattle.wdf_model.specs.State.{State, held_at, object_in}
 use Rattle.wdf_model.specs.rules.Faults.{View, arg_is, call_faults, gives_up, is_not_owned}
 use Rattle.wdf_model.specs.rules.Script.{arg_of, node_value, request_value, value_of, value_to}
 use Rattle.wdf_model.specs.rules.Steps.{view_of}
-use Rattle.wdf_model.proofs.Tests.{either_false}
+use Rattle.wdf_model.proofs.Tests.{either_false, right_fails}
 use Rattle.wdf_lint.specs.declared.state.Hold.{Hold}
 use Rattle.wdf_lint.specs.declared.state.Hold.TheVariants as hold
 use Rattle.wdf_lint.specs.declared.state.Abstract.{Abstract}
@@ -111,10 +111,6 @@ pub record Quiet (v : View) (c : Call) : Type 0 where
   pub due : call_faults v c fault.CompleteBeforeCancelCallback ≡ false
   pub once : call_faults v c fault.MarkedTwice ≡ false
 
-and_off : (b c : Bool) → c ≡ false → (b && c) ≡ false
-and_off true c h = h
-and_off false c h = refl
-
 module _ {A : Type 0} (plan : Plan) (S : State A) (cpu f n : ℕ) (x y z : Arg) where
   abbrev seen : View
   seen = view_of plan S cpu f
@@ -124,8 +120,8 @@ module _ {A : Type 0} (plan : Plan) (S : State A) (cpu f n : ℕ) (x y z : Arg) 
       → Owned (request_of S.requests (object_in x)) → Quiet seen (calling k n x y z)
   owned_gives k asks twice own = record {
     owned = asks ∙ ap not own.owned;
-    marked = and_off (gives_up (calling k n x y z)) (is_marked (mark_of S.requests (object_in x))) (either_false (is_marked (mark_of S.requests (object_in x))) (is_due (mark_of S.requests (object_in x))) own.off).0;
-    due = and_off (gives_up (calling k n x y z)) (is_due (mark_of S.requests (object_in x))) (either_false (is_marked (mark_of S.requests (object_in x))) (is_due (mark_of S.requests (object_in x))) own.off).1;
+    marked = right_fails (gives_up (calling k n x y z)) (is_marked (mark_of S.requests (object_in x))) (either_false (is_marked (mark_of S.requests (object_in x))) (is_due (mark_of S.requests (object_in x))) own.off).0;
+    due = right_fails (gives_up (calling k n x y z)) (is_due (mark_of S.requests (object_in x))) (either_false (is_marked (mark_of S.requests (object_in x))) (is_due (mark_of S.requests (object_in x))) own.off).1;
     once = twice;
   }
 

@@ -1,9 +1,9 @@
 -- A frame's script is that of its callback, and belongs to its object.
-use Rattle.std.proofs.Common.{◌≡◌, ℕ, zero, suc, ◌+◌, ◌==◌, ◌<◌, Bool, true, false, not, ◌&&◌, ◌||◌, nat_lt, List, [], ◌∷◌, ◌++◌, drop, filter_map, length, map, option_map, position, Option, Some, None, is_some, slice_get, unwrap_or, refl, sym, ap, subst, ◌∙◌, arith, get_or}
+use Rattle.std.proofs.Common.{◌≡◌, ℕ, zero, suc, ◌+◌, ◌==◌, ◌<◌, Bool, true, false, not, ◌&&◌, nat_lt, List, [], ◌∷◌, ◌++◌, drop, filter_map, length, map, option_map, position, Option, Some, None, is_some, slice_get, unwrap_or, refl, sym, ap, subst, ◌∙◌, arith, get_or}
 use Rattle.std.specs.List.{list_all, list_any, position_or_len}
 use Rattle.std.proofs.lemmas.Bool.{eqb-true}
 use Rattle.std.proofs.lemmas.Bool.Decides.{nat_tests}
-use Rattle.std.proofs.lemmas.Option.{slice_get_within}
+use Rattle.std.proofs.lemmas.Option.{slice_get_within, slice_get-get_or}
 use Rattle.wdf_base.specs.declared.plan.Plan.{Plan}
 use Rattle.wdf_base.specs.declared.object.Kind.{Kind}
 use Rattle.wdf_base.specs.declared.object.Kind.TheVariants as kind
@@ -32,7 +32,7 @@ use Rattle.wdf_model.specs.Plans.{script_on, as_interrupt}
 use Rattle.wdf_model.specs.parts.Tree.{kind_of, made_as, node_of}
 use Rattle.wdf_model.specs.State.{State, declared_in}
 use Rattle.wdf_model.proofs.Sames.{callback_decides}
-use Rattle.wdf_model.proofs.Tests.{both_left, both_right}
+use Rattle.wdf_model.proofs.Tests.{both_left, both_right, second}
 use Rattle.wdf_lint.specs.Abstracts.{callback_of, id_of, owner_of}
 use Rattle.wdf_lint.specs.Steps.{is_of_interrupt, is_scoped, is_scoped_queue}
 use Rattle.law_lint.proofs.HeldAs.{is_interrupt}
@@ -97,10 +97,6 @@ only_place p xs j x at is one =
 
 -- ---- declared objects of one name are one
 
-or_so : (a b : Bool) → b ≡ true → (a || b) ≡ true
-or_so true b h = refl
-or_so false b h = h
-
 named_in : {T : Type 0} (f : T → Option ℕ) (xs : List T) (ys : List ℕ) (k n : ℕ) (x : T) → slice_get xs k ≡ Some x → f x ≡ Some n → list_any (◌==◌ n) (filter_map f xs ++ ys) ≡ true
 named_in f [] ys k n x at is = absurd (let z : ⊥ = cc in z)
 named_in f (y ∷ xs) ys zero n x at is =
@@ -110,7 +106,7 @@ named_in f (y ∷ xs) ys (suc k) n x at is = by (f y) refl (named_in f xs ys k n
   where
     by : (o : Option ℕ) → f y ≡ o → list_any (◌==◌ n) (filter_map f xs ++ ys) ≡ true → list_any (◌==◌ n) (filter_map f (y ∷ xs) ++ ys) ≡ true
     by None e rest = rw e rest
-    by (Some m) e rest = rw e (or_so (n == m) (list_any (◌==◌ n) (filter_map f xs ++ ys)) rest)
+    by (Some m) e rest = rw e (second (n == m) (list_any (◌==◌ n) (filter_map f xs ++ ys)) rest)
 
 -- the name of the first isn't there again
 first_again : {T : Type 0} (f : T → Option ℕ) (w : T) (xs : List T) (ys : List ℕ) → all_differ ◌==◌ (filter_map f (w ∷ xs) ++ ys) ≡ true → (k n : ℕ) (y : T) → slice_get xs k ≡ Some y → f w ≡ Some n → f y ≡ Some n → ⊥
@@ -236,14 +232,9 @@ interrupt_id plan resolved i j (suc (suc k)) named same h =
 abbrev pub FoundAt : {T : Type 0} → (T → Bool) → List T → ℕ → Type 0
 FoundAt {T} p xs k = (x : T) × (slice_get xs k ≡ Some x) × (p x ≡ true)
 
-item_within : {T : Type 0} (xs : List T) (k : ℕ) (d : T) → k < length xs → slice_get xs k ≡ Some (get_or xs k d)
-item_within [] k d h = absurd (omega arith)
-item_within (x ∷ xs) zero d h = refl
-item_within (x ∷ xs) (suc k) d h = item_within xs k d (omega arith)
-
 pub found_by : {T : Type 0} (p : T → Bool) (xs : List T) (k : ℕ) → position p xs ≡ Some k → FoundAt p xs k
 found_by p [] k h = absurd (let z : ⊥ = cc in z)
-found_by p (x ∷ xs) k h = let q = position-Some p (x ∷ xs) k x h in (get_or (x ∷ xs) k x, item_within (x ∷ xs) k x q.0, q.1)
+found_by p (x ∷ xs) k h = let q = position-Some p (x ∷ xs) k x h in (get_or (x ∷ xs) k x, slice_get-get_or (x ∷ xs) k x q.0, q.1)
 
 all_at : {T : Type 0} (p : T → Bool) (xs : List T) (k : ℕ) (x : T) → list_all p xs ≡ true → slice_get xs k ≡ Some x → p x ≡ true
 all_at p [] k x h at = absurd (let z : ⊥ = cc in z)

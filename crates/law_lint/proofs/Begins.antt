@@ -47,6 +47,7 @@ use Rattle.wdf_model.proofs.Sames.{callback_decides}
 use Rattle.wdf_model.proofs.Tests.{both_left, both_right}
 use Rattle.law_machine_base.proofs.FitsOfEvents.{event_fits}
 use Rattle.law_machine_base.proofs.KeptMoves.{front_queued, within}
+use Rattle.law_machine_base.proofs.KeptByDeeds.{owned_undone}
 use Rattle.wdf_model.proofs.FrameCounts.{on, pushed}
 use Rattle.law_machine_counts.proofs.StepStates.{in_turn}
 use Rattle.wdf_lint.specs.declared.state.Abstract.{Abstract}
@@ -163,14 +164,6 @@ sent_got q o h s = by q.place refl h
     by (place.Closing w) e h = absurd (let z : ⊥ = cc in z)
     by (place.Returning w) e h = absurd (let z : ⊥ = cc in z)
     by place.Done e h = absurd (let z : ⊥ = cc in z)
-
-owned_undone : (p : Place) → is_owned p ≡ true → is_done p ≡ false
-owned_undone place.Owned h = refl
-owned_undone (place.Queued q) h = refl
-owned_undone (place.Returning q) h = refl
-owned_undone (place.Closing s) h = refl
-owned_undone (place.Sent t) h = refl
-owned_undone place.Done h = absurd (let z : ⊥ = cc in z)
 
 some_origin : (o : Option ObjectId) (q : ℕ) → same_id (option_map (λ (i : ObjectId). i.0) o) q ≡ true → is_none o ≡ false
 some_origin None q h = absurd (let z : ⊥ = cc in z)

@@ -88,7 +88,7 @@ IsLoose q = (is_owned q.place ≡ false) × (is_done q.place ≡ false)
 loose_owned : (q : Request) (b : Bool) → IsLoose q → is_owned q.place ≡ true → ⊥
 loose_owned q b l h = let no = l.0 in let z : ⊥ = cc in z
 
-mark_moved : (p : Place) (k : Mark) → is_marked k ≡ false → is_marked (mark_at p k) ≡ false
+pub mark_moved : (p : Place) (k : Mark) → is_marked k ≡ false → is_marked (mark_at p k) ≡ false
 mark_moved place.Owned k h = h
 mark_moved place.Done k h = h
 mark_moved _ k h = refl
@@ -116,7 +116,7 @@ unarmed_stays marks.Due h = absurd (let z : ⊥ = cc in z)
 unarmed_stays marks.Taken h = refl
 unarmed_stays marks.Unmarked h = refl
 
-never_marked : (k : Mark) → is_marked (mark_cancelled k) ≡ false
+pub never_marked : (k : Mark) → is_marked (mark_cancelled k) ≡ false
 never_marked marks.Marked = refl
 never_marked marks.Due = refl
 never_marked marks.Taken = refl

@@ -23,6 +23,7 @@ use Rattle.law_machine_deeds.specs.MayDo.{is_start, may_do, releasing, second_pa
 use Rattle.law_machine_deeds.proofs.Passing.{event_passes}
 use Rattle.law_machine_lives.proofs.LocksOnce.{Once, one_lock}
 use Rattle.law_machine_lives.proofs.PartsStay.{locks_stay}
+use Rattle.law_machine_lives.proofs.Counted.{split}
 use Rattle.law_trace_once.proofs.Words.{any_weaker, found_counts}
 use Rattle.law_trace_scopes.proofs.Holding.{is_other_hold, not_own, own_holds}
 
@@ -43,28 +44,6 @@ take_more L l f = let all = taken L l f f true in let yes : (f == f && true) ≡
 pub take_other : (L : Locks) (l : LockRef) (f g : ℕ) → g ≢ f → held_by_call (locks.take L l f true) g ≡ held_by_call L g
 take_other L l f g n = let all = taken L l f g true in let off : (f == g && true) ≡ false = ap (λ b. b && true) (not_equal f g (λ e. n (sym e))) in let none : flag (f == g && true) ≡ 0 = ap flag off in omega arith
 
--- of those that go with a release
-removed : (p s : Held → Bool) (hs : List Held) → count_by p (filter (λ h. not (s h)) hs) + count_by (λ h. s h && p h) hs ≡ count_by p hs
-removed p s [] = refl
-removed p s (x ∷ xs) = by (s x) refl (removed p s xs)
-  where
-    by : (b : Bool) → s x ≡ b → count_by p (filter (λ h. not (s h)) xs) + count_by (λ h. s h && p h) xs ≡ count_by p xs → count_by p (filter (λ h. not (s h)) (x ∷ xs)) + count_by (λ h. s h && p h) (x ∷ xs) ≡ count_by p (x ∷ xs)
-    by true e rest =
-        let left : filter (λ h. not (s h)) (x ∷ xs) ≡ filter (λ h. not (s h)) xs = rw e refl in
-        let l : count_by p (filter (λ h. not (s h)) (x ∷ xs)) ≡ count_by p (filter (λ h. not (s h)) xs) = ap (count_by p) left in
-        let a = count_cons (λ h. s h && p h) x xs in
-        let b = count_cons p x xs in
-        let same : flag (s x && p x) ≡ flag (p x) = ap (λ c. flag (c && p x)) e in
-        omega arith
-    by false e rest =
-        let left : filter (λ h. not (s h)) (x ∷ xs) ≡ x ∷ filter (λ h. not (s h)) xs = rw e refl in
-        let l : count_by p (filter (λ h. not (s h)) (x ∷ xs)) ≡ count_by p (x ∷ filter (λ h. not (s h)) xs) = ap (count_by p) left in
-        let c = count_cons p x (filter (λ h. not (s h)) xs) in
-        let a = count_cons (λ h. s h && p h) x xs in
-        let b = count_cons p x xs in
-        let none : flag (s x && p x) ≡ 0 = ap (λ c. flag (c && p x)) e in
-        omega arith
-
 -- the test of a hold, in another order
 three : (a b c : Bool) → (a && b && c) ≡ (a && (b && c))
 three true b c = refl
@@ -76,7 +55,7 @@ any_alike p q same (x ∷ xs) = ap (λ b. b || list_any p xs) (same x) ∙ ap (�
 
 pub release_less : (L : Locks) (l : LockRef) (f : ℕ) → holds_by_call L f l ≡ true → held_by_call (locks.release L l) f + 1 ≤ held_by_call L f
 release_less L l f h =
-    let all = removed (is_by f) (λ x. same_lock x.lock l) L.held in
+    let all = split (is_by f) (λ x. same_lock x.lock l) L.held in
     let some_ = found_counts (λ x. same_lock x.lock l && is_by f x) L.held (sym (any_alike (λ x. same_lock x.lock l && x.frame.0 == f && x.by_call) (λ x. same_lock x.lock l && is_by f x) (λ x. three (same_lock x.lock l) (x.frame.0 == f) x.by_call) L.held) ∙ h) in
     omega arith
 

@@ -24,7 +24,7 @@ use Rattle.wdf_base.specs.declared.rank.CallbackLock.TheVariants as callback_loc
 use Rattle.wdf_base.specs.Callbacks.{row_of}
 use Rattle.wdf_base.specs.Same.{same_lock}
 use Rattle.wdf_model.specs.declared.entries.Held.{Held}
-use Rattle.wdf_model.specs.Tables.{contains, same_id}
+use Rattle.wdf_model.specs.Tables.{contains}
 use Rattle.wdf_model.specs.Plans.{scope_lock, serial_lock, scope_lock_of_device, scope_lock_of_queue}
 use Rattle.wdf_model.specs.parts.Cpus.{frame_of}
 use Rattle.wdf_model.specs.parts.Locks.{holder, object_lock, own_lock, parent_lock, scope_needed}
@@ -38,6 +38,7 @@ use Rattle.law_machine_lives.proofs.Framing.{IsHeld}
 use Rattle.law_machine_lives.proofs.Lists.{Each}
 use Rattle.law_machine_lives.proofs.LocksOnce.{one_lock}
 use Rattle.law_machine_lives.proofs.Sound.{lock_of_frame}
+use Rattle.law_machine_lives.proofs.Leveled.{is_interrupt_lock}
 use Rattle.wdf_lint.specs.declared.state.Abstract.{Abstract}
 use Rattle.wdf_lint.specs.declared.state.HeldLock.{HeldLock}
 use Rattle.wdf_lint.specs.declared.state.HeldLock.TheVariants as lock
@@ -64,6 +65,7 @@ use Rattle.wdf_base.specs.declared.object.LockRef.{LockRef}
 use Rattle.wdf_base.specs.declared.object.LockRef.TheVariants as lock_of
 use Rattle.wdf_base.specs.declared.declared.Scope.{Scope}
 use Rattle.wdf_base.specs.Plan.{declared_of}
+use Rattle.law_machine_counts.proofs.StepTable.{top_is}
 
 -- ---- the first fault of a call
 
@@ -147,10 +149,6 @@ parent_other plan (Some (declared.Queue d)) x h = let z : ⊥ = cc in z
 parent_other plan (Some (declared.Interrupt d)) x h = let z : ⊥ = cc in z
 parent_other plan (Some (declared.Target d)) x h = let z : ⊥ = cc in z
 
-abbrev is_interrupt_lock : CallbackLock → Bool
-is_interrupt_lock callback_lock.InterruptLock = true
-is_interrupt_lock _ = false
-
 -- the object of an object's lock
 abbrev object_of : Option LockRef → ℕ
 object_of (Some (lock_of.Object i)) = i.0
@@ -168,10 +166,6 @@ takes_it callback.EvtInterruptIsr h = (refl, refl)
 takes_it callback.EvtInterruptEnable h = (refl, refl)
 takes_it callback.EvtInterruptDisable h = (refl, refl)
 takes_it _ h = absurd (let z : ⊥ = cc in z)
-
-id_same : (o : Option ℕ) (f : ℕ) → same_id o f ≡ true → o ≡ Some f
-id_same None f h = absurd (let z : ⊥ = cc in z)
-id_same (Some g) f h = ap Some (eqb-true g f h)
 
 -- ---- a frame of a clean plan
 
@@ -239,7 +233,7 @@ module _ {A : Type 0} (plan : Plan) (S : State A) (cpu f : ℕ) (a : Abstract) (
   -- where it is the holder, it has the lock by a call or since its start
   holder_of : (x : ℕ) → holds_lock sees (object_lock x) ≡ true → HasLock S.locks f x ⊎ (lock_of_frame plan S f ≡ Some (object_lock x))
   holder_of x h =
-      let r = held_in (IsHeld plan S) (λ y. same_lock y.lock (object_lock x)) S.locks.held f free.framing.held (id_same (holder S.locks (object_lock x)) f h) in
+      let r = held_in (IsHeld plan S) (λ y. same_lock y.lock (object_lock x)) S.locks.held f free.framing.held (top_is (holder S.locks (object_lock x)) f h) in
       elim r.4 [
         | inl called ↦ inl called
         | inr start ↦ inr (subst (λ y. lock_of_frame plan S y ≡ Some (object_lock x)) r.2 (r.3.1 start ∙ ap Some (one_lock r.0.lock (object_lock x) r.1)))

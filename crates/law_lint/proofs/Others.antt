@@ -12,7 +12,7 @@ use Rattle.wdf_model.specs.declared.deed.Deed.TheVariants.{CompleteRequest, Forw
 use Rattle.wdf_model.specs.rules.Deeds.{do_deed, do_deeds}
 use Rattle.wdf_model.specs.rules.Steps.{deeds}
 use Rattle.law_machine_base.specs.Fits.{all_fit, fits}
-use Rattle.wdf_model.proofs.Tests.{both_left, both_right, not_true}
+use Rattle.wdf_model.proofs.Tests.{both_left, both_right, not_true, second}
 use Rattle.law_machine_base.proofs.KeptByDeeds.{deed_keeps}
 pub use Rattle.law_free_runs.proofs.Places.{Places}
 use Rattle.law_machine_deeds.specs.MayDo.{calls, first_part, gives_back, gives_to_head, is_completion, may_do}
@@ -79,10 +79,6 @@ is_owners_call _ = false
 abbrev pub is_owners_event : Event → Bool
 is_owners_event e = is_completion e || first_part is_owners_call e
 
-pub or_right : (a b : Bool) → b ≡ true → (a || b) ≡ true
-or_right true b h = refl
-or_right false b h = h
-
 or_either : (a b c : Bool) → (a || b) ≡ true → (b ≡ true → c ≡ true) → (a || c) ≡ true
 or_either true b c h k = refl
 or_either false b c h k = k h
@@ -99,12 +95,12 @@ backs_owned call.WdfRequestStopAcknowledge h = refl
 backs_owned _ h = absurd (let z : ⊥ = cc in z)
 
 pub owners_event : (e : Event) (d : Deed) → is_owners d ≡ true → may_do e d ≡ true → is_owners_event e ≡ true
-owners_event e (Requeue r q) o h = or_right (is_completion e) (first_part is_owners_call e) (first_among gives_to_head is_owners_call e heads_owned h)
-owners_event e (Forward r q) o h = or_right (is_completion e) (first_part is_owners_call e) (calls_among call.WdfRequestForwardToIoQueue is_owners_call e refl h)
-owners_event e (GiveBack r q) o h = or_right (is_completion e) (first_part is_owners_call e) (first_among gives_back is_owners_call e backs_owned h)
-owners_event e (MarkRequest r) o h = or_right (is_completion e) (first_part is_owners_call e) (calls_among call.WdfRequestMarkCancelableEx is_owners_call e refl h)
-owners_event e (UnmarkRequest r) o h = or_right (is_completion e) (first_part is_owners_call e) (calls_among call.WdfRequestUnmarkCancelable is_owners_call e refl h)
-owners_event e (SendRequest r t forget) o h = or_right (is_completion e) (first_part is_owners_call e) (calls_among call.WdfRequestSend is_owners_call e refl h)
+owners_event e (Requeue r q) o h = second (is_completion e) (first_part is_owners_call e) (first_among gives_to_head is_owners_call e heads_owned h)
+owners_event e (Forward r q) o h = second (is_completion e) (first_part is_owners_call e) (calls_among call.WdfRequestForwardToIoQueue is_owners_call e refl h)
+owners_event e (GiveBack r q) o h = second (is_completion e) (first_part is_owners_call e) (first_among gives_back is_owners_call e backs_owned h)
+owners_event e (MarkRequest r) o h = second (is_completion e) (first_part is_owners_call e) (calls_among call.WdfRequestMarkCancelableEx is_owners_call e refl h)
+owners_event e (UnmarkRequest r) o h = second (is_completion e) (first_part is_owners_call e) (calls_among call.WdfRequestUnmarkCancelable is_owners_call e refl h)
+owners_event e (SendRequest r t forget) o h = second (is_completion e) (first_part is_owners_call e) (calls_among call.WdfRequestSend is_owners_call e refl h)
 owners_event e (CompleteRequest r) o h = or_either (is_completion e) (calls call.WdfRequestComplete e) (first_part is_owners_call e) h (λ k. calls_among call.WdfRequestComplete is_owners_call e refl k)
 owners_event e _ o h = absurd (let z : ⊥ = cc in z)
 

@@ -11,7 +11,7 @@ use Rattle.wdf_model.specs.declared.deed.Deed.{Deed}
 use Rattle.wdf_model.specs.declared.deed.Deed.TheVariants.{Acknowledge, AdvancePower}
 use Rattle.wdf_model.specs.rules.Deeds.{do_deed, do_deeds}
 use Rattle.wdf_model.specs.rules.Steps.{deeds}
-use Rattle.wdf_model.proofs.Tests.{both_left, both_right, not_true}
+use Rattle.wdf_model.proofs.Tests.{both_left, both_right, not_true, second}
 use Rattle.law_machine_base.specs.Fits.{all_fit, fits}
 use Rattle.law_machine_base.proofs.KeptByDeeds.{deed_keeps}
 use Rattle.law_machine_deeds.specs.MayDo.{calls, first_part, is_completion, is_stage, may_do}
@@ -19,7 +19,7 @@ use Rattle.law_machine_deeds.proofs.Passing.{calls_among, event_passes}
 use Rattle.law_machine_lives.proofs.AllOf.{AllOf}
 use Rattle.law_lint.proofs.Flags.{Calm, FlagsKept, deed_flags, flags_same, flags_then}
 use Rattle.law_lint.proofs.Grips.{LaterAt, deed_later}
-use Rattle.law_lint.proofs.Others.{AllApart, Places, all_apart, is_owners, is_owners_call, is_owners_event, not_owners, or_right}
+use Rattle.law_lint.proofs.Others.{AllApart, Places, all_apart, is_owners, is_owners_call, is_owners_event, not_owners}
 
 abbrev pub AllCalm : {A : Type 0} → Plan → Bool → List Deed → State A → ℕ → Type 0
 AllCalm {A} plan fresh ds S x = AllOf plan (λ (d : Deed) (U : State A). Calm fresh d U x) ds S
@@ -67,7 +67,7 @@ pub no_acknowledge : (e : Event) → is_owners_event e ≡ false → calls call.
 no_acknowledge e off = by (calls call.WdfRequestStopAcknowledge e) refl
   where
     by : (b : Bool) → calls call.WdfRequestStopAcknowledge e ≡ b → b ≡ false
-    by true h = absurd (let yes : is_owners_event e ≡ true = or_right (is_completion e) (first_part is_owners_call e) (calls_among call.WdfRequestStopAcknowledge is_owners_call e refl h) in let z : ⊥ = cc in z)
+    by true h = absurd (let yes : is_owners_event e ≡ true = second (is_completion e) (first_part is_owners_call e) (calls_among call.WdfRequestStopAcknowledge is_owners_call e refl h) in let z : ⊥ = cc in z)
     by false h = refl
 
 pub apart_beside : {A : Type 0} (plan : Plan) (S : State A) (e : Event) (x : ℕ) → is_owners_event e ≡ false → AllApart plan (deeds plan S e) S x

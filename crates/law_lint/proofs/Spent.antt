@@ -1,13 +1,12 @@
 -- A request that is cancelled or completed stays so, also where its owner acts on it; and no request that is there goes.
 use Rattle.std.proofs.Common.{if◌then◌else◌, ◌≡◌, ℕ, ◌<◌, ◌≤◌, Bool, true, false, ◌&&◌, List, [], ◌∷◌, inl, inr, length, refl, sym, subst, arith}
 use Rattle.wdf_base.specs.declared.plan.Plan.{Plan}
-use Rattle.wdf_base.specs.declared.object.Mark.{Mark}
 use Rattle.wdf_base.specs.declared.object.Mark.TheVariants as marks
 use Rattle.wdf_base.specs.declared.object.Place.{Place}
 use Rattle.wdf_base.specs.declared.object.Place.TheVariants as place
 use Rattle.wdf_base.specs.Places.{is_marked, is_owned}
 use Rattle.wdf_model.specs.declared.entries.Request.{Request}
-use Rattle.wdf_model.specs.parts.Requests.{Requests, cancelled, is_cancelled, mark_at, mark_cancelled, mark_of, marked, moved, no_request, place_of, request_of, unmarked, with_mark, with_request}
+use Rattle.wdf_model.specs.parts.Requests.{Requests, cancelled, is_cancelled, mark_cancelled, mark_of, marked, moved, no_request, place_of, request_of, unmarked, with_mark, with_request}
 use Rattle.wdf_model.specs.parts.Requests as requests
 use Rattle.wdf_model.specs.State.{State, withdrawn_place}
 use Rattle.wdf_model.specs.declared.deed.Deed.{Deed}
@@ -18,7 +17,7 @@ use Rattle.wdf_model.proofs.Tests.{both_left, both_right}
 use Rattle.wdf_model.proofs.Maps.{entry_put_other, entry_put_same, put_long}
 use Rattle.wdf_model.proofs.Counts.{one_or_two}
 use Rattle.law_machine_base.proofs.KeptByDeeds.{deed_keeps, owned_of, owned_undone}
-use Rattle.law_lint.proofs.Grips.{LaterAt, Spent, asked, deed_later, given_up, given_up_if}
+use Rattle.law_lint.proofs.Grips.{LaterAt, Spent, asked, deed_later, given_up, given_up_if, mark_moved, never_marked}
 use Rattle.law_lint.proofs.Others.{Places, apart_of}
 
 -- request x stays spent, and stays
@@ -44,11 +43,6 @@ one_changes x R r f h = record {
   long = put_long no_request R.all r (f (request_of R r));
 }
 
-unmarked_at : (p : Place) (k : Mark) → is_marked k ≡ false → is_marked (mark_at p k) ≡ false
-unmarked_at place.Owned k h = h
-unmarked_at place.Done k h = h
-unmarked_at _ k h = refl
-
 -- an owned request that is spent is cancelled
 owned_spent : (q : Request) → is_owned q.place ≡ true → Spent q → q.info.cancelled ≡ true
 owned_spent q own s = elim s.over [
@@ -57,7 +51,7 @@ owned_spent q own s = elim s.over [
 ]
 
 moves_spent : (q : Request) (p : Place) → is_owned q.place ≡ true → Spent q → Spent (moved p q)
-moves_spent q p own s = record { off = unmarked_at p q.info.mark s.off; over = inl (owned_spent q own s) }
+moves_spent q p own s = record { off = mark_moved p q.info.mark s.off; over = inl (owned_spent q own s) }
 
 completes_spent : (q : Request) → Spent q → Spent (moved place.Done q)
 completes_spent q s = record { off = s.off; over = inr refl }
@@ -70,14 +64,8 @@ unmarks_spent : (q : Request) (b : Bool) → is_marked q.info.mark ≡ b → Spe
 unmarks_spent q true e s = absurd (let off = s.off in let z : ⊥ = cc in z)
 unmarks_spent q false e s = s
 
-never_marked : (k : Mark) → is_marked (mark_cancelled k) ≡ false
-never_marked marks.Marked = refl
-never_marked marks.Due = refl
-never_marked marks.Taken = refl
-never_marked marks.Unmarked = refl
-
 gives_spent : (q : Request) (p : Place) → Spent (moved p (cancelled q))
-gives_spent q p = record { off = unmarked_at p (mark_cancelled q.info.mark) (never_marked q.info.mark); over = inl refl }
+gives_spent q p = record { off = mark_moved p (mark_cancelled q.info.mark) (never_marked q.info.mark); over = inl refl }
 
 moves_at : (x : ℕ) (R U : Requests) (r : ℕ) (p : Place) → U ≡ R → is_owned (place_of R r) ≡ true → StaysSpent x R (requests.move_to U r p)
 moves_at x R U r p e own = subst (λ (V : Requests). StaysSpent x R (requests.move_to V r p)) (sym e) (one_changes x R r (moved p) (λ _ s. moves_spent (request_of R r) p own s))

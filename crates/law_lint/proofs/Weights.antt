@@ -7,6 +7,7 @@ use Rattle.wdf_base.specs.declared.event.Fault.TheVariants as fault
 use Rattle.wdf_model.specs.Tables.{contains, flag, without}
 use Rattle.wdf_model.proofs.Counts.{count_behind, count_cons, filter_less, not_equal, one_or_two}
 use Rattle.wdf_model.proofs.Tests.{both_left, not_true}
+use Rattle.wdf_model.proofs.FrameCounts.{contained}
 use Rattle.wdf_lint.specs.declared.state.Abstract.{Abstract}
 use Rattle.wdf_lint.specs.declared.state.HeldLock.{HeldLock}
 use Rattle.wdf_lint.specs.declared.state.HeldLock.TheVariants as lock
@@ -108,14 +109,6 @@ absent i (x ∷ xs) h = by (x == i) refl (absent i xs)
         let none : flag (x == i) ≡ 0 = ap flag e in
         omega arith
 
-present : (i : ℕ) (ids : List ℕ) → contains i ids ≡ true → 1 ≤ count_by (λ x. x == i) ids
-present i [] h = absurd (let z : ⊥ = cc in z)
-present i (x ∷ xs) h = by (x == i) refl (present i xs)
-  where
-    by : (b : Bool) → (x == i) ≡ b → (contains i xs ≡ true → 1 ≤ count_by (λ y. y == i) xs) → 1 ≤ count_by (λ y. y == i) (x ∷ xs)
-    by true e others = let all = count_cons (λ y. y == i) x xs in let one : flag (x == i) ≡ 1 = ap flag e in omega arith
-    by false e others = let rest = others (sym (ap (λ c. c || contains i xs) e) ∙ h) in let all = count_cons (λ y. y == i) x xs in omega arith
-
 removed_length : (i : ℕ) (ids : List ℕ) → length (without i ids) + count_by (λ x. x == i) ids ≡ length ids
 removed_length i [] = refl
 removed_length i (x ∷ xs) = by (x == i) refl (removed_length i xs)
@@ -147,7 +140,7 @@ joined_contains i j ids h = elim (one_or_two i j) [
   | inr n ↦ elim (cases_Bool (contains j ids)) [
     | inl e ↦ inr e
     | inr e ↦ absurd (
-        let some_ = present j (joined i ids) h in
+        let some_ = contained j (joined i ids) h in
         let all = joined_count i j ids in
         let none = absent j ids e in
         let other : flag (i == j) ≡ 0 = ap flag (not_equal i j n) in
@@ -175,7 +168,7 @@ acquired_at_single plan k a (Some i) h s = λ j. (let all = joined_count i j a.i
 pub released_at_weight : (a : Abstract) (o : Option ℕ) → rule_of_releasing_at a o ≡ None → Single a.interrupts → weight (released_at a o) + 1 ≡ weight a
 released_at_weight a None h s = absurd (let z : ⊥ = cc in z)
 released_at_weight a (Some i) h s =
-    let there = present i a.interrupts (given_by (contains i a.interrupts) h) in
+    let there = contained i a.interrupts (given_by (contains i a.interrupts) h) in
     let most = s i in
     let left = removed_length i a.interrupts in
     omega arith

@@ -34,7 +34,7 @@ use Rattle.law_machine_lives.proofs.Stays.{gives_up}
 use Rattle.law_machine_lives.proofs.Lists.{reads_same}
 use Rattle.law_machine_lives.proofs.Sound.{AllSound, Sound}
 use Rattle.law_machine_lives.proofs.SoundRuns.{all_sound, known_place}
-use Rattle.law_machine_lives.proofs.Framing.{off_it}
+use Rattle.law_machine_lives.proofs.Framing.{off_it, object_of}
 use Rattle.law_machine_lives.proofs.FramesStay.{Begins, FramesGoOn, frames_by}
 use Rattle.law_machine_states.specs.States.{FramesBeforeCleanup}
 use Rattle.law_machine_lives.proofs.Readers.{arrived_tree, tree_of}
@@ -93,9 +93,6 @@ early_still plan (CompleteRequest r) S x n h =
 early_still plan d S x n h = early_same _ _ (tree_stays plan d S refl) x h
 
 -- ---- frames
-
-abbrev object_of : {A : Type 0} → State A → ℕ → ℕ
-object_of S f = (frame_of S.cpus f).object.id.0
 
 -- a frame is one that may run: its object isn't past its cleanup, or it is that of a destroy callback
 abbrev MayRun : {A : Type 0} → State A → ℕ → Type 0

@@ -1,4 +1,4 @@
-mod Ended
+pub mod Ended
 pub mod RunsOfRequests
 pub mod RunsOfProcessors
 pub mod RunsOfPower

@@ -18,6 +18,7 @@ use Rattle.wdf_blocks.specs.Blocks.{driver_line, form_at, given, is_driver_line,
 use Rattle.wdf_blocks.specs.Forms.{is_driver}
 use Rattle.wdf_blocks.specs.Placed.{counted, nothing, opened_by, outside, placed, placed_from, placed_line}
 use Rattle.wdf_blocks.specs.Variables.{assigned_from, variables}
+use Rattle.wdf_blocks.proofs.Walks.{placed_length}
 use Rattle.wdf_refusals.specs.Numbered.{Every}
 use Rattle.wdf_refusals.proofs.Heads.{HasHead, scene_head}
 use Rattle.wdf_plan.specs.Flow.{HasTree}
@@ -31,7 +32,7 @@ use Rattle.law_order.proofs.Bodies.{across}
 use Rattle.law_order.proofs.Inserted.{IsInserted, IsThere}
 use Rattle.law_order.proofs.Lists.{every_back, every_front}
 use Rattle.law_order.proofs.Moves.{IsMoved, more, moved_placed}
-use Rattle.law_order.proofs.Placing.{block_counts, block_of_order, block_stand, counts_after, goes_after, length_placed, picks_in, placed_both, placed_moved, stand_after, stays_before}
+use Rattle.law_order.proofs.Placing.{block_counts, block_of_order, block_stand, counts_after, goes_after, picks_in, placed_both, placed_moved, stand_after, stays_before}
 use Rattle.law_order.proofs.Scans.{assigned_across, given_shifted, place_after, place_is}
 use Rattle.law_order.proofs.Shift.{NonePass, behind, further_is, get_shifted, less_same, option_same, position_shifted, rises, shifted}
 
@@ -158,7 +159,7 @@ module _ (version : ℕ) (exprs : List SceneExpr) (before : List NumberedLine) (
 
     block_there : slice_get (placed two) (length before) ≡ Some (placed_line start (stand_after 0 outside before) counts (record { number = first; form = line.Order; picks = [] }))
     unfolding placed placed_from
-    block_there = item_there (placed two) (placed_from 0 outside nothing before) _ _ (length before) (placed_both 0 outside nothing before (block ++ after)) (length_placed 0 outside nothing before)
+    block_there = item_there (placed two) (placed_from 0 outside nothing before) _ _ (length before) (placed_both 0 outside nothing before (block ++ after)) (placed_length 0 outside nothing before)
 
     stand_there : stand_after 0 outside before ≡ outside
     stand_there =

@@ -30,11 +30,6 @@ unfolding placed_from
 placed_both k o c [] ys = refl
 placed_both k o c (x ∷ xs) ys = ap (λ ps. placed_line k o c x ∷ ps) (placed_both (suc k) (opened_by o k x.form) (counted c x.form (length x.picks)) xs ys)
 
-pub length_placed : (k : ℕ) (o : Stand) (c : Counts) (ls : List NumberedLine) → length (placed_from k o c ls) ≡ length ls
-unfolding placed_from
-length_placed k o c [] = refl
-length_placed k o c (l ∷ ls) = ap suc (length_placed (suc k) (opened_by o k l.form) (counted c l.form (length l.picks)) ls)
-
 -- ---- more picks before
 
 counted_more : (n : ℕ) (c : Counts) (form : SceneLine) (picks : ℕ) → counted (more n c) form picks ≡ more n (counted c form picks)

@@ -29,7 +29,7 @@ use Rattle.wdf_blocks.specs.Placed.{opened_by, counted, placed_from, placed, out
 use Rattle.wdf_plan.specs.Plans.{name_in, plan_with, plan_of, all_objects}
 use Rattle.wdf_refusals.specs.Rows.{unknown_word, unknown_action, unknown_parent, lacks_parent, no_parent}
 use Rattle.wdf_plan.proofs.Accepted.{IsAccepted, each_accepted, word_known}
-use Rattle.wdf_refusals.proofs.Every.{Every, every_map, every_both}
+use Rattle.wdf_refusals.proofs.Every.{Every, every_map, every_both, every_any}
 use Rattle.wdf_plan.proofs.Within.{level_within}
 use Rattle.law_plan.specs.Told.{is_when, is_ask, is_app_post, is_device_post, kept_form, kept_line, forms_that, lines_that, names_declared}
 use Rattle.law_plan.specs.WrittenOut.{object_text, level_text, object_line, class_line, register_line, action_text, when_line, post_line}
@@ -64,14 +64,10 @@ unfolding declared_by declared_name
 declared_same p (line.App n) = refl
 declared_same p _ = refl
 
-every_of : {P : Type 0} (Q : P → Type 0) → ((p : P) → Q p) → (ps : List P) → Every Q ps
-every_of Q f [] = tt
-every_of Q f (p ∷ ps) = (f p, every_of Q f ps)
-
 pub names_are : (scene : Scene) → map name_in (declarations scene) ≡ names_declared scene.lines
 unfolding declarations
 names_are scene =
-    made declared_on name_in (λ p. declared_name p.form) (placed scene) (every_of (λ p. option_map name_in (declared_on p) ≡ declared_name p.form) (λ p. declared_same p p.form) (placed scene))
+    made declared_on name_in (λ p. declared_name p.form) (placed scene) (every_any (λ p. option_map name_in (declared_on p) ≡ declared_name p.form) (λ p. declared_same p p.form) (placed scene))
     ∙ of_scene (λ n form. declared_name form) scene
 
 -- the names of a plan

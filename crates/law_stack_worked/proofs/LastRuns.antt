@@ -8,7 +8,7 @@ use Rattle.law_machine_base.proofs.Course.{worked_with}
 use Rattle.law_stack.specs.Laws.{keeps_stack_laws}
 use Rattle.law_stack.specs.Words.{passings, works}
 use Rattle.law_stack_worked.specs.Shown.{IsStackRun}
-use Rattle.law_stack_worked.proofs.Ended.{over}
+use Rattle.law_machine_worked.proofs.Ended.{over}
 use Rattle.law_stack_worked.specs.LastArrival.{last_arrival_plan, last_arrival_events}
 
 pub last_arrival_is : IsStackRun last_arrival_plan last_arrival_events ending.Limit []

@@ -1,4 +1,3 @@
 mod BrokenLists
-mod Ended
 pub mod StackRuns
 mod LastRuns

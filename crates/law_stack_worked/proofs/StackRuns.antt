@@ -8,7 +8,7 @@ use Rattle.law_machine_base.proofs.Course.{worked_with}
 use Rattle.law_stack.specs.Laws.{keeps_stack_laws}
 use Rattle.law_stack.specs.Words.{passings, works}
 use Rattle.law_stack_worked.specs.Shown.{IsStackRun}
-use Rattle.law_stack_worked.proofs.Ended.{over}
+use Rattle.law_machine_worked.proofs.Ended.{over}
 use Rattle.law_stack_worked.specs.StackOrders.{a_query_is_refused_plan, a_query_is_refused_events, sleeps_and_wakes_plan, sleeps_and_wakes_events, starts_from_the_bottom_plan, starts_from_the_bottom_events, the_bottom_fails_to_start_plan, the_bottom_fails_to_start_events, the_lower_device_is_gone_plan, the_lower_device_is_gone_events, the_lower_queue_is_stopped_plan, the_lower_queue_is_stopped_events, the_lower_queue_is_stopped_waits, the_middle_device_is_removed_plan, the_middle_device_is_removed_events}
 use Rattle.law_stack_worked.specs.StackRequests.{a_cancel_goes_down_plan, a_cancel_goes_down_events, a_made_request_goes_down_plan, a_made_request_goes_down_events, a_sent_request_is_cancelled_plan, a_sent_request_is_cancelled_events, a_stopped_target_cancels_plan, a_stopped_target_cancels_events, depth_is_reached_plan, depth_is_reached_events, one_target_is_connected_plan, one_target_is_connected_events, status_comes_up_plan, status_comes_up_events}
 

@@ -30,13 +30,14 @@ use Rattle.wdf_model.specs.parts.Pnp.{follows_queues_up, is_running_step, runnin
 use Rattle.wdf_model.specs.State.{State, declared_in, handle_in}
 use Rattle.wdf_model.specs.rules.Starts.{handle_id, is_unfinished_at, level_fits, targets_at}
 use Rattle.wdf_model.specs.rules.Waits.{by_frame, by_request, cause_if, cpus_with_dpc, first_cause, frames_where, head_lock, holders_of, next_step_line, no_cpu, object_of_step, queues_to_resume, quiet_frames, resume_cpus, resume_frames, resumes_cause, running_line, runs_step, scope_holders, stage_cpus, stage_frames, stage_requests, step_cause}
+use Rattle.wdf_model.proofs.Maps.{entry_past}
 use Rattle.law_stuck_causes.specs.Causes.{all_taken, awaits_cpu, awaits_frame, awaits_request, has_lock_if_any, is_taken, is_there, keeps_next, keeps_resumes, keeps_running, runs_callback, runs_on}
 use Rattle.law_stuck_causes.proofs.Members.{Has, has_back, has_flat, has_front, has_id}
 use Rattle.law_stuck_causes.proofs.Gives.{Gives, any_alike, gives_frame, it_contains}
 use Rattle.law_stuck_causes.proofs.Forms.{none_left, not_fits}
 use Rattle.law_stuck_blame.specs.Blame.{comes_before, is_blamed, place_of_next}
 use Rattle.law_stuck_blame.proofs.Rows.{IsFirstOf, IsThere, first_in, none_before, placed_if, placed_map, there_if}
-use Rattle.law_stuck_blame.proofs.There.{frame_on, has_passed, in_table, lock_by, lock_by_any, past_end, some_least, some_passes}
+use Rattle.law_stuck_blame.proofs.There.{frame_on, has_passed, in_table, lock_by, lock_by_any, some_least, some_passes}
 
 module _ {A : Type 0} (plan : Plan) (S : State A) (d : ℕ) where
   -- ---- frames that keep the resumes, or the step
@@ -72,10 +73,10 @@ module _ {A : Type 0} (plan : Plan) (S : State A) (d : ℕ) where
 
   request_there : (s : Stage) (r : ℕ) → awaits_request plan S d s r ≡ true → Has r (stage_requests plan S d s)
   request_there stage.Settled r h =
-      in_table S.power.holdings (λ x. is_unsettled_at S.power d (holding_of S.power x)) r (λ late. ap (λ (x : Holding). is_unsettled_at S.power d x) (past_end no_holding S.power.holdings r late)) h
+      in_table S.power.holdings (λ x. is_unsettled_at S.power d (holding_of S.power x)) r (λ late. ap (λ (x : Holding). is_unsettled_at S.power d x) (entry_past no_holding S.power.holdings r late)) h
   request_there stage.Removed r h =
       in_table S.requests.all (λ x. is_unfinished_at d (request_of S.requests x) || list_any (λ t. is_sent_to t (place_of S.requests x)) (targets_at plan d)) r
-      (λ late. ap (λ (x : Request). is_unfinished_at d x || list_any (λ t. is_sent_to t x.place) (targets_at plan d)) (past_end no_request S.requests.all r late) ∙ none_sent (targets_at plan d)) h
+      (λ late. ap (λ (x : Request). is_unfinished_at d x || list_any (λ t. is_sent_to t x.place) (targets_at plan d)) (entry_past no_request S.requests.all r late) ∙ none_sent (targets_at plan d)) h
     where
       none_sent : (ts : List ℕ) → (is_unfinished_at d no_request || list_any (λ t. is_sent_to t no_request.place) ts) ≡ false
       none_sent [] = refl

@@ -1,5 +1,5 @@
 -- What passes a test is in the list of those that pass, so a search finds something.
-use Rattle.std.proofs.Common.{◌≡◌, inl, inr, ℕ, zero, suc, ◌<◌, ◌≤◌, ◌==◌, Bool, true, false, not, ◌&&◌, nat_lt, List, [], ◌∷◌, length, Option, Some, None, is_some, filter, filter_map, refl, sym, ap, ◌∙◌, arith, eqb-true}
+use Rattle.std.proofs.Common.{◌≡◌, inl, inr, ℕ, ◌<◌, ◌≤◌, ◌==◌, Bool, true, false, not, ◌&&◌, nat_lt, List, [], ◌∷◌, length, Option, Some, None, is_some, filter, filter_map, refl, sym, ap, ◌∙◌, arith, eqb-true}
 use Rattle.std.specs.Prelude.{option_map}
 use Rattle.std.specs.List.{list_any}
 use Rattle.std.proofs.lemmas.Bool.{and_parts, cases_Bool, ltb-false, ltb-true}
@@ -9,7 +9,7 @@ use Rattle.wdf_base.specs.declared.object.Place.TheVariants as place
 use Rattle.wdf_base.specs.declared.wait.Cause.{Cause}
 use Rattle.wdf_model.specs.declared.entries.Node.{Node}
 use Rattle.wdf_model.specs.declared.entries.Request.{Request}
-use Rattle.wdf_model.specs.Tables.{entry, ids_of, least, same_id}
+use Rattle.wdf_model.specs.Tables.{ids_of, least, same_id}
 use Rattle.wdf_model.specs.parts.Tree.{children, gone, is_child}
 use Rattle.wdf_base.specs.Lives.{is_gone}
 use Rattle.wdf_model.specs.parts.Cpus.{all_frames, is_on}
@@ -18,6 +18,7 @@ use Rattle.wdf_model.specs.parts.Requests.{no_request, origin_of, place_of}
 use Rattle.wdf_model.specs.parts.Targets.{is_forgotten}
 use Rattle.wdf_model.specs.State.{State, held_at, held_from, is_held_from}
 use Rattle.wdf_model.specs.rules.Waits.{holders_of, requests_where}
+use Rattle.wdf_model.proofs.Maps.{entry_past}
 use Rattle.law_stuck_causes.specs.Causes.{has_lock, has_lock_if_any, is_there, runs_on}
 use Rattle.law_stuck_causes.proofs.Members.{Has, has_id, has_range}
 use Rattle.law_stuck_blame.proofs.Rows.{there_least}
@@ -59,11 +60,6 @@ some_passes p (x ∷ xs) h = passes_by p x xs (p x) refl h (some_passes p xs)
 
 -- ---- tables
 
-pub past_end : {T : Type 0} (blank : T) (xs : List T) (n : ℕ) → length xs ≤ n → entry blank xs n ≡ blank
-past_end blank [] n h = refl
-past_end blank (x ∷ xs) zero h = absurd (omega (arith, h))
-past_end blank (x ∷ xs) (suc n) h = past_end blank xs n (omega (arith, h))
-
 -- an id that passes is one of the table's, where the blank entry doesn't pass
 pub in_table : {T : Type 0} (xs : List T) (p : ℕ → Bool) (r : ℕ) → (length xs ≤ r → p r ≡ false) → p r ≡ true → Has r (filter p (ids_of xs))
 in_table xs p r off h = elim (cases_Bool (nat_lt r (length xs))) [
@@ -101,18 +97,18 @@ module _ {A : Type 0} (S : State A) where
   pub held_there : (q r : ℕ) → is_held_from S q r ≡ true → Has r (held_from S q)
   held_there q r h =
       in_table S.requests.all (is_held_from S q) r
-      (λ late. ap (λ (x : Request). same_id (origin_of S.requests r) q && held_at (is_forgotten S.targets r) x.place) (past_end no_request S.requests.all r late) ∙ no_and (same_id (origin_of S.requests r) q))
+      (λ late. ap (λ (x : Request). same_id (origin_of S.requests r) q && held_at (is_forgotten S.targets r) x.place) (entry_past no_request S.requests.all r late) ∙ no_and (same_id (origin_of S.requests r) q))
       h
 
   pub placed_there : (test : Place → Bool) (r : ℕ) → test place.Done ≡ false → test (place_of S.requests r) ≡ true → Has r (requests_where S test)
   placed_there test r off h =
-      in_table S.requests.all (λ x. test (place_of S.requests x)) r (λ late. ap (λ (x : Request). test x.place) (past_end no_request S.requests.all r late) ∙ off) h
+      in_table S.requests.all (λ x. test (place_of S.requests x)) r (λ late. ap (λ (x : Request). test x.place) (entry_past no_request S.requests.all r late) ∙ off) h
 
   -- ---- objects
 
   pub child_there : (p x : ℕ) → is_child S.tree p x ≡ true → Has x (children S.tree p)
   child_there p x h =
-      in_table S.tree.nodes (is_child S.tree p) x (λ late. ap (λ (n : Node). n.parent.0 == p && not (is_gone n.life)) (past_end gone S.tree.nodes x late) ∙ no_and (gone.parent.0 == p)) h
+      in_table S.tree.nodes (is_child S.tree p) x (λ late. ap (λ (n : Node). n.parent.0 == p && not (is_gone n.life)) (entry_past gone S.tree.nodes x late) ∙ no_and (gone.parent.0 == p)) h
 
 -- ---- a lock that is held
 

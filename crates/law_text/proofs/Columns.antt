@@ -1,5 +1,5 @@
 -- A line has a fault at a column exactly where whole blanks and tokens lead there and that fault is there.
-use Rattle.std.proofs.Common.{◌≡◌, ◌⊎◌, inl, inr, ℕ, zero, suc, ◌+◌, ◌-◌, ◌<◌, Bool, true, false, cond, nat_le, List, [], ◌∷◌, length, drop, Option, Some, None, Result, Ok, Err, refl, ap, sym, subst, ◌∙◌, arith}
+use Rattle.std.proofs.Common.{◌≡◌, ◌⊎◌, inl, inr, ℕ, zero, suc, ◌+◌, ◌-◌, ◌<◌, Bool, true, nat_le, List, [], ◌∷◌, length, drop, Option, Some, None, Result, Ok, Err, refl, ap, sym, subst, ◌∙◌, arith}
 use Rattle.std.proofs.lemmas.List.Sums.{take_while-cons}
 use Rattle.std.specs.Prelude.{◌==◌, slice_index}
 use Rattle.std.specs.List.{take_while}
@@ -11,13 +11,11 @@ use Rattle.wdf_tokens.specs.declared.lexer.TokenFault.{TokenFault}
 use Rattle.wdf_tokens.specs.declared.lexer.TokenFault.TheVariants as fault
 use Rattle.wdf_tokens.specs.declared.token.Token.{Token}
 use Rattle.wdf_tokens.specs.Tokens.{is_blank, is_name_byte, piece_of, digits_piece, letters_piece, number_content, name_content, long_name, long_content, pair_token, mark_token, marks_piece, token_at, with_token, tokens_from}
+use Rattle.wdf_tokens.proofs.LineReading.{tokens_from_skip}
 use Rattle.law_text.specs.FirstRefusal.{IsFine, Reaches, IsStuck}
+use Rattle.law_text.proofs.Pieces.{picked}
 
 -- ---- a piece has a byte, and its fault says the column
-
-picked : {P : Type 0} (w : P) (Q : P → Type 0) (t : Bool) (x y : P) → (t ≡ true → Q x) → (t ≡ false → Q y) → Q (cond t x y)
-picked w Q true x y f g = f refl
-picked w Q false x y f g = g refl
 
 some_while : (test : ℕ → Bool) (b : ℕ) (bytes : List ℕ) → test b ≡ true → 0 < length (take_while test (b ∷ bytes))
 some_while test b bytes h = rw (take_while-cons test b bytes, h) (omega arith)
@@ -71,13 +69,6 @@ piece_faults column b bytes =
 
 -- ---- bytes of the piece before
 
-skip_over : (column skip : ℕ) (bytes : List ℕ) → tokens_from column skip bytes ≡ tokens_from (column + skip) 0 (drop skip bytes)
-skip_over column zero bytes = let e : column ≡ column + 0 = omega arith in ap (λ n. tokens_from n 0 bytes) e
-skip_over column (suc skip) [] = refl
-skip_over column (suc skip) (b ∷ bytes) =
-    let e : suc column + skip ≡ column + suc skip = omega arith in
-    skip_over (suc column) skip bytes ∙ ap (λ n. tokens_from n 0 (drop skip bytes)) e
-
 drop_less : (n : ℕ) (b : ℕ) (bytes : List ℕ) → 0 < n → drop (n - 1) bytes ≡ drop n (b ∷ bytes)
 drop_less zero b bytes h = absurd (omega arith)
 drop_less (suc n) b bytes h = let e : suc n - 1 ≡ n = omega arith in ap (λ m. drop m bytes) e
@@ -86,7 +77,7 @@ drop_less (suc n) b bytes h = let e : suc n - 1 ≡ n = omega arith in ap (λ m.
 past : (column b : ℕ) (bytes : List ℕ) (n : ℕ) → 0 < n → tokens_from (suc column) (n - 1) bytes ≡ tokens_from (column + n) 0 (drop n (b ∷ bytes))
 past column b bytes n h =
     let e : suc column + (n - 1) ≡ column + n = omega arith in
-    skip_over (suc column) (n - 1) bytes ∙ (ap (λ m. tokens_from m 0 (drop (n - 1) bytes)) e ∙ ap (tokens_from (column + n) 0) (drop_less n b bytes h))
+    tokens_from_skip (suc column) (n - 1) bytes ∙ (ap (λ m. tokens_from m 0 (drop (n - 1) bytes)) e ∙ ap (tokens_from (column + n) 0) (drop_less n b bytes h))
 
 -- ---- the fault of a line
 

@@ -13,7 +13,7 @@ use Rattle.wdf_tokens.specs.declared.token.Token.TheVariants as token
 use Rattle.wdf_tokens.specs.Tokens.{is_blank, is_name_byte, piece_of, number_content, long_content, long_name, name_content, operator_of, mark_token, pair_token, marks_piece, token_at}
 
 -- what holds of both branches of a test holds of the test; the first value names their type
-picked : {T : Type 0} (of : T) (P : T → Type 0) (b : Bool) (x y : T) → (b ≡ true → P x) → (b ≡ false → P y) → P (cond b x y)
+pub picked : {T : Type 0} (of : T) (P : T → Type 0) (b : Bool) (x y : T) → (b ≡ true → P x) → (b ≡ false → P y) → P (cond b x y)
 picked of P true x y h e = h refl
 picked of P false x y h e = e refl
 
