@@ -4,3 +4,4 @@ pub mod OnCpus
 pub mod OnDeclared
 pub mod OnFrames
 pub mod OnRequests
+pub mod Rising
