@@ -122,8 +122,10 @@ fn plan_with(alloc: Global, heritage: &Heritage, names: &Names) -> Result<Plan, 
     let registers = gather(alloc, lines, &Registers { names })?;
     let whens = gather(alloc, lines, &Whens { names })?;
     let pnp = gather(alloc, lines, &PnpPosts { names })?;
-    let agents = all_agents(alloc, lines, names)?;
     let exprs = all_nodes(alloc, lines, names)?;
+    let picks = all_picks(alloc, scene.lines.as_slice())?;
+    // What is dear to let go is made last.
+    let agents = all_agents(alloc, lines, names)?;
     let scripts = gather(
         alloc,
         lines,
@@ -133,7 +135,6 @@ fn plan_with(alloc: Global, heritage: &Heritage, names: &Names) -> Result<Plan, 
             names,
         },
     )?;
-    let picks = all_picks(alloc, scene.lines.as_slice())?;
     Ok(Plan {
         cpus,
         limit,
