@@ -113,8 +113,7 @@ fn a_refusal_that_is_not_written_is_a_failed_write(rt: HostRuntime) -> Result<()
 /// What is written in a number of pieces.
 struct Pieces {
     row: Row,
-    /// How many lines each write has: the events of a trace are written together, then its ending, then each line of its
-    /// wait list. Every other text goes in one piece.
+    /// How many lines each write has: the traces are short, and each text goes in one piece. `pages` has a long trace.
     writes: &'static [u64],
 }
 
@@ -128,7 +127,7 @@ static WRITES: [Pieces; 8] = [
             status: 0,
             text: TWO_READS_AT_ONCE_RUN,
         },
-        writes: &[12, 1],
+        writes: &[13],
     },
     // Three events, the ending and a line of the wait list.
     Pieces {
@@ -139,7 +138,7 @@ static WRITES: [Pieces; 8] = [
             status: 4,
             text: KEPT_RUN,
         },
-        writes: &[3, 1, 1],
+        writes: &[5],
     },
     // Four events and the ending.
     Pieces {
@@ -150,7 +149,7 @@ static WRITES: [Pieces; 8] = [
             status: 0,
             text: BY_SEED_9,
         },
-        writes: &[4, 1],
+        writes: &[5],
     },
     Pieces {
         row: Row {

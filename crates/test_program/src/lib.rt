@@ -18,6 +18,8 @@ mod objects;
 #[cfg(test)]
 mod other_agents;
 #[cfg(test)]
+mod pages;
+#[cfg(test)]
 mod processors;
 #[cfg(test)]
 mod reads;

@@ -2,7 +2,7 @@
 use crate::call::{Outside, STEADY, call};
 use crate::rows::{Row, Text, first_wrong};
 use crate::runs::is_verdict;
-use crate::texts::{KEPT, ONE_READ};
+use crate::texts::{KEPT, LONG, ONE_READ};
 use std::alloc::Global;
 use std::sync::Wait;
 use std::test::Fail;
@@ -104,25 +104,39 @@ fn an_input_over_the_limit_is_refused(rt: HostRuntime) -> Result<(), Fail> {
 /// A scenario whose runs all have as many lines and one status.
 struct Pieces {
     scenario: &'static [u8],
-    /// How many lines each write has: the events, the ending, and each line of the wait list.
-    writes: &'static [usize],
+    /// For each write what `replay` says of the lines before it. A write has whole lines and at most 16,384 bytes.
+    missing: &'static [&'static [u8]],
     status: u8,
     /// What `replay` says of its runs.
     verdict: &'static [u8],
+    /// How many numbers of writes are tried.
+    tries: usize,
 }
 
-static PIECES: [Pieces; 2] = [
+static PIECES: [Pieces; 3] = [
     Pieces {
         scenario: ONE_READ,
-        writes: &[6, 1],
+        missing: &[b"refused at line 1: Missing\n"],
         status: 0,
         verdict: b"accepted finished 6\n",
+        tries: 20,
     },
     Pieces {
         scenario: KEPT,
-        writes: &[3, 1, 1],
+        missing: &[b"refused at line 1: Missing\n"],
         status: 4,
         verdict: b"accepted stuck 3\n",
+        tries: 20,
+    },
+    Pieces {
+        scenario: LONG,
+        missing: &[
+            b"refused at line 1: Missing\n",
+            b"refused at line 398: Missing\n",
+        ],
+        status: 4,
+        verdict: b"accepted stuck 504\n",
+        tries: 4,
     },
 ];
 
@@ -137,27 +151,10 @@ pub static MISSING: [&[u8]; 7] = [
     b"refused at line 7: Missing\n",
 ];
 
-/// How many lines come before the write with this number, from 1 on, if there is such a write.
-fn lines_before(writes: &[usize], number: usize) -> Option<usize> {
-    let mut at: usize = 1;
-    let mut before: usize = 0;
-    for lines in writes {
-        if at == number {
-            return Some(before);
-        }
-        at = at.saturating_add(1);
-        before = before.saturating_add(*lines);
-    }
-    None
-}
-
-/// The status and the verdict that are due where the write with this number fails.
+/// The status and the verdict that are due where the write with this number, from 1 on, fails.
 fn due_at(pieces: &Pieces, number: usize) -> (u8, &'static [u8]) {
-    match lines_before(pieces.writes, number) {
-        Some(lines) => match MISSING.get(lines) {
-            Some(missing) => (13, *missing),
-            None => (pieces.status, pieces.verdict),
-        },
+    match pieces.missing.get(number.saturating_sub(1)) {
+        Some(missing) => (13, *missing),
         None => (pieces.status, pieces.verdict),
     }
 }
@@ -202,13 +199,13 @@ fn leaves_front<R: Threads + Wait + Sync>(
     }
 }
 
-/// The number of the first of twenty writes that leaves no front where it fails.
+/// The number of the first write that leaves no front where it fails.
 fn first_wrong_write<R: Threads + Wait + Sync>(
     rt: &R,
     alloc: Global,
     pieces: &Pieces,
 ) -> Result<Option<usize>, Memory> {
-    for number in 1..=20 {
+    for number in 1..=pieces.tries {
         match leaves_front(rt, alloc, pieces, number) {
             Ok(true) => {}
             Ok(false) => return Ok(Some(number)),

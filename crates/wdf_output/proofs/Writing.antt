@@ -1,16 +1,14 @@
 -- Lemmas on what a sink gains, and on the lines of a run.
 use Rattle.std.proofs.Common.{ℕ, zero, suc, ◌≡◌, ◌+◌, ◌<◌, ◌≤◌, List, [], ◌∷◌, ◌++◌, length, take, Option, Some, None, ◌⊎◌, inl, inr, refl, sym, ap, subst, ◌∙◌, arith, codes, length-append, append_assoc, slice_get, le_of_lt}
-use Rattle.std.specs.Prelude.{Result, Ok, Err, OnOk, OnErr}
-use Rattle.std.proofs.lemmas.List.{append-nil}
+use Rattle.std.proofs.lemmas.List.{append-nil, take-append-le}
 use Rattle.std.proofs.Math.Seq.{take-append-add}
-use Rattle.std.proofs.lemmas.List.{take-append-le}
 use Rattle.wdf_base.specs.declared.plan.Plan.{Plan}
 use Rattle.wdf_base.specs.declared.event.Event.{Event}
 use Rattle.wdf_base.specs.declared.wait.WaitLine.{WaitLine}
 use Rattle.wdf_io.specs.Outside.{Gains, Rose}
 use Rattle.wdf_lines.specs.Endings.{wait_text, wait_lines}
 use Rattle.wdf_lines.specs.Lines.{line_text, lines_from}
-use Rattle.wdf_output.specs.Said.{IsCutShort}
+use Rattle.wdf_output.specs.Said.{Adds, IsCutShort, Sinking}
 
 -- two gains, one after the other
 pub gains_more : (a b c : Option (List ℕ)) (xs ys : List ℕ) → Gains a b xs → Gains b c ys → Gains a c (xs ++ ys)
@@ -18,19 +16,6 @@ gains_more None b c xs ys p q = tt
 gains_more (Some a) None c xs ys p q = absurd p
 gains_more (Some a) (Some b) None xs ys p q = absurd q
 gains_more (Some a) (Some b) (Some c) xs ys p q = q ∙ rw (p, append_assoc) refl
-
--- what follows from a call that went well, or from one that failed
-pub ok_gives : {T E P Q : Type 0} (r : Result T E) → (P → Q) → OnOk r P → OnOk r Q
-ok_gives (Ok x) f p = f p
-ok_gives (Err x) f p = tt
-
-pub err_gives : {T E P Q : Type 0} (r : Result T E) → (P → Q) → OnErr r P → OnErr r Q
-err_gives (Ok x) f p = tt
-err_gives (Err x) f p = f p
-
-pub both_err : {T E P Q R : Type 0} (r : Result T E) → (P → Q → R) → OnErr r P → OnErr r Q → OnErr r R
-both_err (Ok x) f p q = tt
-both_err (Err x) f p q = f p q
 
 -- nothing is gained
 pub gains_nothing : (a : Option (List ℕ)) → Gains a a []
@@ -42,27 +27,25 @@ pub front_behind : (xs ys zs : List ℕ) (n : ℕ) → n ≤ length ys → take 
 front_behind xs ys zs n h =
     rw (append_assoc, take-append-add xs (ys ++ zs) n, take-append-le n ys zs h) refl
 
--- a page that begins has nothing, and nothing was written
-pub record Paged (first now : Option (List ℕ)) (page text : List ℕ) : Type 0 where
-  pub out : List ℕ
-  pub gained : Gains first now out
-  pub is : out ++ page ≡ text
+-- nothing was added to a page
+pub adds_nothing : (a : Option (List ℕ)) (page : List ℕ) → Adds a a page page []
+adds_nothing a page = record { out = []; gained = gains_nothing a; is = sym (append-nil page) }
 
-pub none_paged : (first : Option (List ℕ)) (page : List ℕ) → page ≡ [] → Paged first first page []
-none_paged first page e = record { out = []; gained = gains_nothing first; is = e }
+-- what comes behind a text comes behind the page, too
+is_behind : (out page old xs ys : List ℕ) → out ++ page ≡ old ++ xs → out ++ (page ++ ys) ≡ old ++ (xs ++ ys)
+is_behind out page old xs ys e = sym (append_assoc out page ys) ∙ ap (λ zs. zs ++ ys) e ∙ append_assoc old xs ys
 
--- a line more is on the page, or what was on it is written
-pub page_more : (first before now : Option (List ℕ)) (old new text line : List ℕ) → Paged first before old text
-    → ((out : List ℕ) × (Gains before now out × (out ++ new ≡ old ++ line))) → Paged first now new (text ++ line)
-page_more first before now old new text line p (out, (gains, e)) = record {
-  out = p.out ++ out;
-  gained = gains_more first before now p.out out p.gained gains;
-  is = append_assoc p.out out new ∙ ap (λ xs. p.out ++ xs) e ∙ sym (append_assoc p.out old line) ∙ ap (λ xs. xs ++ line) p.is;
+adds_behind : (a b : Option (List ℕ)) (old page xs ys : List ℕ) → Adds a b old page xs → Adds a b old (page ++ ys) (xs ++ ys)
+adds_behind a b old page xs ys p = record { out = p.out; gained = p.gained; is = is_behind p.out page old xs ys p.is }
+
+-- two texts were added to a page, one after the other
+pub adds_more : (a b c : Option (List ℕ)) (first page last xs ys : List ℕ) → Adds a b first page xs → Adds b c page last ys
+    → Adds a c first last (xs ++ ys)
+adds_more a b c first page last xs ys p q = record {
+  out = p.out ++ q.out;
+  gained = gains_more a b c p.out q.out p.gained q.gained;
+  is = append_assoc p.out q.out last ∙ ap (λ zs. p.out ++ zs) q.is ∙ is_behind p.out page first xs ys p.is;
 }
-
--- the page is written whole
-pub page_out : (first before now : Option (List ℕ)) (page text : List ℕ) → Paged first before page text → Gains before now page → Gains first now text
-page_out first before now page text p gains = subst (λ xs. Gains first now xs) p.is (gains_more first before now p.out page p.gained gains)
 
 -- the lines of the first events and of the next one
 pub lines_next : (plan : Plan) (events : List Event) (event : Event) (n k : ℕ) → slice_get events k ≡ Some event
@@ -85,14 +68,6 @@ lines_split plan (e ∷ es) n (suc k) =
     let p : (rest : List ℕ) × (lines_from plan (n + 1) es ≡ lines_from plan (n + 1) (take k es) ++ rest) = lines_split plan es (n + 1) k in
     (p.0, rw p.1 (sym (append_assoc (line_text plan n e ++ codes "\n") (lines_from plan (n + 1) (take k es)) p.0)))
 
--- the text of the events up to this one, and of the rest
-pub lines_at : (plan : Plan) (events : List Event) (event : Event) (k : ℕ) → slice_get events k ≡ Some event
-    → (rest : List ℕ) × (lines_from plan 1 events ≡ (lines_from plan 1 (take k events) ++ (line_text plan (k + 1) event ++ codes "\n")) ++ rest)
-lines_at plan events event k h =
-    let split : (rest : List ℕ) × (lines_from plan 1 events ≡ lines_from plan 1 (take (suc k) events) ++ rest) = lines_split plan events 1 (suc k) in
-    let number : k + 1 ≡ 1 + k = omega arith in
-    (split.0, rw (number, ← lines_next plan events event 1 k h) split.1)
-
 -- the lines of one event more
 pub lines_more : (plan : Plan) (events : List Event) (event : Event) (k : ℕ) → slice_get events k ≡ Some event
     → lines_from plan 1 (take (k + 1) events) ≡ lines_from plan 1 (take k events) ++ (line_text plan (k + 1) event ++ codes "\n")
@@ -114,19 +89,12 @@ waits_next plan (w ∷ ws) wait (suc k) h =
     rw (waits_next plan ws wait k h) (sym (append_assoc (wait_text plan w ++ codes "\n") (wait_lines plan (take k ws)) _))
 
 -- the first lines of a wait list, and the rest
-waits_split : (plan : Plan) (waits : List WaitLine) (k : ℕ) → (rest : List ℕ) × (wait_lines plan waits ≡ wait_lines plan (take k waits) ++ rest)
+pub waits_split : (plan : Plan) (waits : List WaitLine) (k : ℕ) → (rest : List ℕ) × (wait_lines plan waits ≡ wait_lines plan (take k waits) ++ rest)
 waits_split plan waits zero = (wait_lines plan waits, refl)
 waits_split plan [] (suc k) = ([], refl)
 waits_split plan (w ∷ ws) (suc k) =
     let p : (rest : List ℕ) × (wait_lines plan ws ≡ wait_lines plan (take k ws) ++ rest) = waits_split plan ws k in
     (p.0, rw p.1 (sym (append_assoc (wait_text plan w ++ codes "\n") (wait_lines plan (take k ws)) p.0)))
-
--- the text of a wait list up to this line, and of the rest
-pub waits_at : (plan : Plan) (waits : List WaitLine) (wait : WaitLine) (k : ℕ) → slice_get waits k ≡ Some wait
-    → (rest : List ℕ) × (wait_lines plan waits ≡ (wait_lines plan (take k waits) ++ (wait_text plan wait ++ codes "\n")) ++ rest)
-waits_at plan waits wait k h =
-    let split : (rest : List ℕ) × (wait_lines plan waits ≡ wait_lines plan (take (suc k) waits) ++ rest) = waits_split plan waits (suc k) in
-    (split.0, rw (← waits_next plan waits wait k h) split.1)
 
 -- the lines of a wait list with one line more
 pub waits_more : (plan : Plan) (waits : List WaitLine) (wait : WaitLine) (k : ℕ) → slice_get waits k ≡ Some wait
@@ -168,25 +136,33 @@ cut_behind a b c first before after front piece rest text gained low high cut te
   front = rw (text_is, front_behind front piece rest cut.size (le_of_lt cut.within)) (gains_more a b c front (take cut.size piece) gained cut.front);
 }
 
--- a text of which a page was cut short was cut short
-pub cut_on_page : (a b c : Option (List ℕ)) (first before after : ℕ) (page text rest all : List ℕ)
-    → Paged a b page text → first ≤ before → before ≤ after
-    → IsCutShort (record { before = b; after = c; faults_before = before; faults_after = after }) page
-    → all ≡ text ++ rest
-    → IsCutShort (record { before = a; after = c; faults_before = first; faults_after = after }) all
-cut_on_page a b c first before after page text rest all p low high cut e =
-    cut_behind a b c first before after p.out page rest all p.gained low high cut (e ∙ ap (λ xs. xs ++ rest) (sym p.is))
+-- a text of which a front was cut short was cut short
+pub cut_longer : (s : Sinking) (xs ys : List ℕ) → IsCutShort s xs → IsCutShort s (xs ++ ys)
+cut_longer s xs ys cut = record {
+  rose = cut.rose;
+  size = cut.size;
+  within = omega (arith, length-append xs ys, cut.within);
+  front = rw (take-append-le cut.size xs ys (le_of_lt cut.within)) cut.front;
+}
 
--- a piece of which a front was written was cut short
-pub cut_front : (a b : Option (List ℕ)) (first after : ℕ) (piece : List ℕ) → ((n : ℕ) × (n < length piece) × Gains a b (take n piece)) → Rose first after
-    → IsCutShort (record { before = a; after = b; faults_before = first; faults_after = after }) piece
-cut_front a b first after piece (n, below, front) rose = record { rose = rose; size = n; within = below; front = front }
+-- a text was added to a page, and that was cut short
+pub page_cut : (a b c : Option (List ℕ)) (first before after : ℕ) (old page text : List ℕ)
+    → Adds a b old page text → first ≤ before → before ≤ after
+    → IsCutShort (record { before = b; after = c; faults_before = before; faults_after = after }) page
+    → IsCutShort (record { before = a; after = c; faults_before = first; faults_after = after }) (old ++ text)
+page_cut a b c first before after old page text p low high cut =
+    cut_behind a b c first before after p.out page [] (old ++ text) p.gained low high cut (sym p.is ∙ sym (append-nil (p.out ++ page)))
+
+-- a text was added to a page, and that was cut short with what comes behind it
+pub later_cut : (a b c : Option (List ℕ)) (first before after : ℕ) (old page xs ys : List ℕ)
+    → Adds a b old page xs → first ≤ before → before ≤ after
+    → IsCutShort (record { before = b; after = c; faults_before = before; faults_after = after }) (page ++ ys)
+    → IsCutShort (record { before = a; after = c; faults_before = first; faults_after = after }) (old ++ (xs ++ ys))
+later_cut a b c first before after old page xs ys p low high cut =
+    page_cut a b c first before after old (page ++ ys) (xs ++ ys) (adds_behind a b old page xs ys p) low high cut
 
 -- all events
 pub all_lines : (plan : Plan) (events : List Event) (n k : ℕ) → length events ≡ k → lines_from plan n (take k events) ≡ lines_from plan n events
 all_lines plan [] n k e = let zero_is : k ≡ 0 = sym e in rw zero_is refl
 all_lines plan (x ∷ xs) n zero e = absurd (omega arith)
 all_lines plan (x ∷ xs) n (suc k) e = ap (λ ls. (line_text plan n x ++ codes "\n") ++ ls) (all_lines plan xs (n + 1) k (omega arith))
-
-pub nothing_rests : (xs : List ℕ) → xs ≡ xs ++ []
-nothing_rests xs = sym (append-nil xs)

@@ -1,5 +1,5 @@
 -- What becomes of a text that is to be written.
-use Rattle.std.specs.Prelude.{ℕ, ◌≡◌, ◌<◌, ◌⊎◌, List, length, take, Option}
+use Rattle.std.specs.Prelude.{ℕ, ◌≡◌, ◌<◌, ◌⊎◌, ◌++◌, List, length, take, Option}
 use Rattle.wdf_io.specs.Outside.{Rose, Gains}
 
 -- what a sink has written and how many faults it has counted, before a call and after it
@@ -24,3 +24,9 @@ pub record IsCutShort (s : Sinking) (text : List ℕ) : Type 0 where
 -- the whole text is written, a front of it, and 13 is answered. Nothing else is written. (own)
 abbrev pub Says : Sinking → List ℕ → ℕ → ℕ → Type 0
 Says s text status answer = ((answer ≡ status) × Gains s.before s.after text × (s.faults_after ≡ s.faults_before)) ⊎ ((answer ≡ 13) × IsCutShort s text)
+
+-- A text was added to a page: what was written meanwhile, and the page after it, are the page before and the text.
+pub record Adds (before after : Option (List ℕ)) (old new text : List ℕ) : Type 0 where
+  pub out : List ℕ
+  pub gained : Gains before after out
+  pub is : out ++ new ≡ old ++ text

@@ -1,7 +1,7 @@
 //! Lines that are written together: a call of the sink for each line would cost more than the line.
-ghost use Rattle.std.specs.Prelude.{◌≡◌, ◌+◌, ◌≤◌, ◌++◌, [], List, ℕ, length, nat_le, OnOk, OnErr};
+ghost use Rattle.std.specs.Prelude.{◌≡◌, ◌+◌, ◌≤◌, ◌++◌, [], length, nat_le, OnOk, OnErr};
 ghost use Rattle.wdf_io.specs.Outside.{Gains, EndsRefused};
-ghost use Rattle.wdf_output.specs.Said.{IsCutShort, sinking};
+ghost use Rattle.wdf_output.specs.Said.{Adds, IsCutShort, sinking};
 
 use arrayvec::ArrayVec;
 use std::marker::Model;
@@ -58,10 +58,21 @@ impl Page {
     }
 }
 
+/// Writes what a page has.
+pub(crate) fn write_page<K: Sink>(sink: &mut K, page: &Page) -> Result<(), Failed>
+    ensures whole { OnOk result (Gains (K.written sink.old) (K.written sink.new) page.now) }
+    ensures cut { OnErr result (IsCutShort (sinking (K.written sink.old) (K.written sink.new) (K.faults sink.old) (K.faults sink.new)) page.now) }
+    ensures quiet { OnOk result (K.faults sink.new ≡ K.faults sink.old) }
+    ensures never_falls { K.faults sink.old ≤ K.faults sink.new }
+    ensures not_again { OnErr result (EndsRefused K.refused K.faults sink.old sink.new) }
+{
+    write_all(sink, page.bytes())
+}
+
 /// Adds a line to a page. Where that has no room for it, what it has is written first.
 pub(crate) fn add_line<K: Sink>(sink: &mut K, page: &mut Page, line: &[u8]) -> Result<(), Failed>
     requires { length line.now ≤ PAGE }
-    ensures whole { OnOk result ((out : List ℕ) × (Gains (K.written sink.old) (K.written sink.new) out × (out ++ page.new ≡ page.old ++ line.now))) }
+    ensures whole { OnOk result (Adds (K.written sink.old) (K.written sink.new) page.old page.new line.now) }
     ensures cut { OnErr result (IsCutShort (sinking (K.written sink.old) (K.written sink.new) (K.faults sink.old) (K.faults sink.new)) page.old) }
     ensures quiet { OnOk result (K.faults sink.new ≡ K.faults sink.old) }
     ensures never_falls { K.faults sink.old ≤ K.faults sink.new }
@@ -71,7 +82,7 @@ pub(crate) fn add_line<K: Sink>(sink: &mut K, page: &mut Page, line: &[u8]) -> R
         page.push(line);
         return Ok(());
     }
-    match write_all(sink, page.bytes()) {
+    match write_page(sink, page) {
         Ok(()) => {
             *page = Page::new();
             page.push(line);
