@@ -3,6 +3,7 @@ pub mod Blanks
 pub mod CallLaws
 pub mod Decimals
 pub mod EventLaws
+pub mod FirstWords
 pub mod NameLaws
 pub mod ResolvedLaws
 pub mod ValueLaws

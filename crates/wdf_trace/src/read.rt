@@ -5,7 +5,7 @@ ghost use Rattle.wdf_base.specs.Resolved.{IsResolved};
 ghost use Rattle.wdf_lines.specs.Lines.{line_text};
 ghost use Rattle.wdf_trace.specs.Events.{IsEventOf};
 
-use crate::reading::{number_of, word};
+use crate::reading::{Words, number_of};
 use crate::told::event_in;
 use crate::valid::is_event;
 use wdf_base::{Event, Plan};
@@ -27,8 +27,9 @@ pub fn read_line(plan: &Plan, text: &[u8]) -> Option<(usize, Event)>
     // Each event of a resolved plan is found in its line, with its number.
     ensures each { IsResolved plan.now → (number : ℕ) (event : Event) → number < 2 ^ 64 → IsEventOf plan.now event → line_text plan.now number event ≡ text.now → result ≡ Some (number, event) }
 {
-    let number = number_of(word(text, 0)) as usize;
-    let event = event_in(plan, text);
+    let words = Words::of(text);
+    let number = number_of(words.at(0)) as usize;
+    let event = event_in(plan, &words);
     if is_line_of(plan, number, event, text) {
         Some((number, event))
     } else {

@@ -1,7 +1,8 @@
-ghost use Rattle.std.specs.Prelude.{◌≡◌, ◌<◌, ◌^◌, ◌+◌, IfSome, position, slice_get};
+ghost use Rattle.std.specs.Prelude.{◌≡◌, ◌<◌, ◌^◌, ◌+◌, ◌==◌, ℕ, IfSome, position, slice_get};
 ghost use Rattle.std.specs.Option.{option_copied};
 ghost use Rattle.wdf_trace.specs.Reading.{part, parts, word, words, is_name_with, is_class_with, is_register_with, is_agent_with, number_of, short_of, cpu_of, name_of, has_dot, object_of, class_of, register_of, poster_of, agent_of};
 
+use std::marker::Model;
 use wdf_base::{AgentInfo, ClassInfo, Cpu, Handle, Name, ObjectId, Plan, RegisterInfo};
 use wdf_lines::name_bytes;
 use wdf_text::small_number;
@@ -28,6 +29,73 @@ pub fn word(text: &[u8], place: usize) -> &[u8]
     ensures { result.now ≡ word place (words text.now) }
 {
     part(text, b' ', place)
+}
+
+/// The place of a text's first blank, if it has one.
+fn blank_in(text: &[u8]) -> Option<usize>
+    ensures { result ≡ position (λ b. b == 32) text.now }
+{
+    text.iter().position(|byte| *byte == b' ')
+}
+
+/// What a text has before its first blank, and what it has after that; without a blank it is all before.
+fn cut(text: &[u8]) -> (&[u8], &[u8])
+    ensures first { result.0.now ≡ word 0 (words text.now) }
+    ensures after { (k : ℕ) → word k (words result.1.now) ≡ word (k + 1) (words text.now) }
+{
+    match blank_in(text) {
+        Some(end) => (&text[..end], &text[end + 1..]),
+        None => (text, &[]),
+    }
+}
+
+/// The words of a line, of which the first are cut once: no event asks for another.
+#[derive(Drop)]
+pub struct Words<'a> {
+    text: &'a [u8],
+    first: [&'a [u8]; 9],
+}
+
+impl<'a> Model for Words<'a> {
+    ghost use Rattle.std.specs.Prelude.{◌≡◌, ◌∷◌, [], ℕ, List, map};
+    ghost use Rattle.wdf_trace.specs.Reading.{word, words};
+
+    ghost Value = { List (List ℕ) };
+
+    ghost view = { λ w. words w.text.now };
+
+    ghost invariant = { λ w. let ws = words w.text.now in map (λ x. x.now) w.first ≡ word 0 ws ∷ word 1 ws ∷ word 2 ws ∷ word 3 ws ∷ word 4 ws ∷ word 5 ws ∷ word 6 ws ∷ word 7 ws ∷ word 8 ws ∷ [] };
+}
+
+impl<'a> Words<'a> {
+    /// The words of this text.
+    pub fn of(text: &'a [u8]) -> Words<'a>
+        ensures { result ≡ words text.now }
+    {
+        let (a, rest) = cut(text);
+        let (b, rest) = cut(rest);
+        let (c, rest) = cut(rest);
+        let (d, rest) = cut(rest);
+        let (e, rest) = cut(rest);
+        let (f, rest) = cut(rest);
+        let (g, rest) = cut(rest);
+        let (h, rest) = cut(rest);
+        let (i, _rest) = cut(rest);
+        Words {
+            text,
+            first: [a, b, c, d, e, f, g, h, i],
+        }
+    }
+
+    /// The word at this place, nothing where there are fewer.
+    pub fn at(&self, place: usize) -> &'a [u8]
+        ensures { result.now ≡ word place self.now }
+    {
+        match self.first.get(place) {
+            Some(word) => word,
+            None => word(self.text, place),
+        }
+    }
 }
 
 /// The number that a word writes in decimal digits, 0 where it doesn't fit 64 bits.

@@ -1,4 +1,5 @@
 ghost use Rattle.std.specs.Prelude.{◌≡◌};
+ghost use Rattle.std.specs.Str.{bytes_eq};
 ghost use Rattle.wdf_trace.specs.Verbs.{verb_word, verb_of};
 
 /// What an event does, as the third word of its line gives it. What the Plug and Play manager asks
@@ -101,10 +102,18 @@ impl Verb {
         WORDS[self as usize]
     }
 
+    /// Whether this is its word. Most words have another length, and are told apart by it.
+    fn has_word(self, word: &[u8]) -> bool
+        ensures { result ≡ bytes_eq (verb_word self) word.now }
+    {
+        let own = self.word();
+        own.len() == word.len() && own == word
+    }
+
     /// The verb with this word, if there is one.
     pub fn from_word(word: &[u8]) -> Option<Verb>
         ensures { result ≡ verb_of word.now }
     {
-        VERBS.iter().copied().find(|x| x.word() == word)
+        VERBS.iter().copied().find(|x| x.has_word(word))
     }
 }
