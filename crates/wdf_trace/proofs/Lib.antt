@@ -7,5 +7,6 @@ pub mod FirstWords
 pub mod NameLaws
 pub mod ResolvedLaws
 pub mod ValueLaws
+pub mod VerbLaws
 pub mod WaitLaws
 pub mod WordLaws

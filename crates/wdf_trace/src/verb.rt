@@ -1,6 +1,6 @@
-ghost use Rattle.std.specs.Prelude.{◌≡◌};
+ghost use Rattle.std.specs.Prelude.{◌≡◌, find};
 ghost use Rattle.std.specs.Str.{bytes_eq};
-ghost use Rattle.wdf_trace.specs.Verbs.{verb_word, verb_of};
+ghost use Rattle.wdf_trace.specs.Verbs.{verb_word, verb_of, with_letter, alike};
 
 /// What an event does, as the third word of its line gives it. What the Plug and Play manager asks
 /// has words of its own, but for `start`.
@@ -94,6 +94,51 @@ const WORDS: [&[u8]; 26] = [
     b"tick",
 ];
 
+/// The verbs that begin with this letter; those of most lines come first.
+#[tactic(auto, unfolding(crate::specs::Verbs::with_letter))]
+fn with_letter(letter: u8) -> &'static [Verb]
+    ensures { result.now ≡ with_letter letter }
+{
+    match letter {
+        b'c' => &[
+            Verb::Call,
+            Verb::Complete,
+            Verb::Cleanup,
+            Verb::Control,
+            Verb::Cancel,
+        ],
+        b'd' => &[Verb::Done, Verb::Destroy],
+        b'e' => &[Verb::End],
+        b'f' => &[Verb::Fault],
+        b'g' => &[Verb::Get],
+        b'l' => &[Verb::Log, Verb::Lower],
+        b'p' => &[Verb::Put, Verb::Park],
+        b'r' => &[Verb::Read, Verb::Raise],
+        b's' => &[Verb::Step, Verb::Start, Verb::Stage, Verb::Spend, Verb::Set],
+        b't' => &[Verb::Tick],
+        b'u' => &[Verb::Unpark],
+        b'w' => &[Verb::Wait, Verb::Woke, Verb::Write],
+        _ => &[],
+    }
+}
+
+/// The verbs with the first letter of a word; none for an empty word.
+fn alike(word: &[u8]) -> &'static [Verb]
+    ensures { result.now ≡ alike word.now }
+{
+    match word.first() {
+        Some(letter) => with_letter(*letter),
+        None => &[],
+    }
+}
+
+/// Of these verbs the first with this word.
+fn with_word(verbs: &[Verb], word: &[u8]) -> Option<Verb>
+    ensures { result ≡ find (λ x. bytes_eq (verb_word x) word.now) verbs.now }
+{
+    verbs.iter().copied().find(|x| x.word() == word)
+}
+
 impl Verb {
     /// The word of a verb.
     fn word(self) -> &'static [u8]
@@ -102,18 +147,11 @@ impl Verb {
         WORDS[self as usize]
     }
 
-    /// Whether this is its word. Most words have another length, and are told apart by it.
-    fn has_word(self, word: &[u8]) -> bool
-        ensures { result ≡ bytes_eq (verb_word self) word.now }
-    {
-        let own = self.word();
-        own.len() == word.len() && own == word
-    }
-
     /// The verb with this word, if there is one.
+    #[tactic(auto, using(crate::proofs::VerbLaws::found_alike))]
     pub fn from_word(word: &[u8]) -> Option<Verb>
         ensures { result ≡ verb_of word.now }
     {
-        VERBS.iter().copied().find(|x| x.has_word(word))
+        with_word(alike(word), word)
     }
 }
