@@ -154,22 +154,36 @@ fn plan_with(alloc: Global, heritage: &Heritage, names: &Names) -> Result<Plan, 
 
 // The plan of a scene or its first refusal.
 #[tactic(auto, unfolding(crate::specs::Plans::plan_of))]
+fn plan_or_refusal(
+    alloc: Global,
+    heritage: &Heritage,
+    names: &Names,
+) -> Result<Result<Plan, PlanRefusal>, Memory>
+    requires scene { IsScene heritage.now }
+    requires own { names.now ≡ declarations heritage.now }
+    ensures { IfOk result (λ r. MatchResult r (λ p. (first.first_refusal heritage.now ≡ None) × (p ≡ plans.plan_of heritage.now)) (λ e. first.first_refusal heritage.now ≡ Some e)) }
+{
+    let scene = heritage.scene();
+    let _lines = scene.lines.as_slice();
+    let _nodes = scene.exprs.as_slice();
+    match first_refusal(alloc, heritage, names)? {
+        Some(refusal) => Ok(Err(refusal)),
+        None => {
+            let plan = plan_with(alloc, heritage, names)?;
+            Ok(Ok(plan))
+        }
+    }
+}
+
 fn outcome(alloc: Global, scene: &Scene) -> Result<Result<Plan, PlanRefusal>, Memory>
     requires { IsScene scene.now }
     ensures { IfOk result (λ r. MatchResult r (λ p. (first.first_refusal scene.now ≡ None) × (p ≡ plans.plan_of scene.now)) (λ e. first.first_refusal scene.now ≡ Some e)) }
 {
-    let _lines = scene.lines.as_slice();
-    let _nodes = scene.exprs.as_slice();
     let lines = Lines::new(alloc, scene)?;
-    let names = declared(alloc, &lines)?;
     let heritage = Heritage::new(alloc, &lines)?;
-    match first_refusal(alloc, &heritage, &names)? {
-        Some(refusal) => Ok(Err(refusal)),
-        None => {
-            let plan = plan_with(alloc, &heritage, &names)?;
-            Ok(Ok(plan))
-        }
-    }
+    // The names are what is dear to let go.
+    let names = declared(alloc, &lines)?;
+    plan_or_refusal(alloc, &heritage, &names)
 }
 
 /// The plan of a scene that has a text: its names replaced by numbers. Where its names are those of a text too, the

@@ -7,7 +7,7 @@ ghost use Rattle.wdf_plan.specs.Scripts as scripts;
 
 use crate::course::{Course, Detour, Nest, kept_way, nest_at, reach};
 use std::alloc::Global;
-use wdf_base::{Act, ArgNode, ExprNode, Memory, Name, Sort, Statement};
+use wdf_base::{Act, ArgNode, CallKind, ExprNode, Memory, Name, Sort, Statement};
 use wdf_blocks::declaration::Wanted;
 use wdf_blocks::forms::is_end;
 use wdf_blocks::variables::Variables;
@@ -89,6 +89,29 @@ fn argument_of(names: &Names, sort: Sort, arg: &SceneArg) -> ArgNode
 }
 
 #[tactic(auto, unfolding(crate::specs::Scripts::plain_act))]
+fn call_act(
+    names: &Names,
+    variables: &Variables,
+    kind: CallKind,
+    into: &Option<Name>,
+    a: &SceneArg,
+    b: &SceneArg,
+    c: &SceneArg,
+) -> Option<Act>
+    requires { IfSome (scripts.plain_act names.now variables.now (SceneLine.Call kind into.now a.now b.now c.now)) IsFitAct }
+    ensures { result ≡ scripts.plain_act names.now variables.now (SceneLine.Call kind into.now a.now b.now c.now) }
+{
+    let signature = kind.signature();
+    Some(Act::Call {
+        kind,
+        into: answer_place(variables, into),
+        a: argument_of(names, signature.a, a),
+        b: argument_of(names, signature.b, b),
+        c: argument_of(names, signature.c, c),
+    })
+}
+
+#[tactic(auto, unfolding(crate::specs::Scripts::plain_act))]
 fn plain_act(names: &Names, variables: &Variables, form: &SceneLine) -> Option<Act>
     requires { IfSome (scripts.plain_act names.now variables.now form.now) IsFitAct }
     ensures { result ≡ scripts.plain_act names.now variables.now form.now }
@@ -104,16 +127,7 @@ fn plain_act(names: &Names, variables: &Variables, form: &SceneLine) -> Option<A
             a,
             b,
             c,
-        } => {
-            let signature = kind.signature();
-            Some(Act::Call {
-                kind: *kind,
-                into: answer_place(variables, into),
-                a: argument_of(names, signature.a, a),
-                b: argument_of(names, signature.b, b),
-                c: argument_of(names, signature.c, c),
-            })
-        }
+        } => call_act(names, variables, *kind, into, a, b, c),
         SceneLine::Get { variable, register } => Some(Act::Get {
             variable: variable_of(variables, variable),
             register: number_of(names, register, Wanted::Register),
