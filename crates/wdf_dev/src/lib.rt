@@ -32,4 +32,4 @@ pub use app::App;
 pub use device::Device;
 pub use laws::agents_are_the_models;
 pub use lower_target::LowerTarget;
-pub use pnp_manager::PnpManager;
+pub use pnp_manager::{PnpManager, is_query};
