@@ -5,7 +5,7 @@ use Rattle.wdf_base.specs.declared.plan.Plan.{Plan}
 use Rattle.wdf_base.specs.declared.call.Callback.TheVariants as callback
 use Rattle.wdf_base.specs.declared.event.Stage.TheVariants as stage
 use Rattle.wdf_model.specs.Tables.{contains, least, lesser}
-use Rattle.wdf_model.specs.Plans.{declared_ids, is_managed, is_queue_of, managed_queues, queue_level, queue_of}
+use Rattle.wdf_model.specs.Plans.{declared_ids, interrupt_of, is_interrupt_of, is_managed, is_queue_of, managed_queues, queue_level, queue_of}
 use Rattle.wdf_model.specs.State.{State, declared_in}
 use Rattle.wdf_model.specs.parts.Cpus.{all_frames, is_on}
 use Rattle.wdf_model.specs.parts.Locks.{scope_of}
@@ -13,7 +13,7 @@ use Rattle.wdf_model.specs.parts.Deferred.Dpcs.{dpcs_of}
 use Rattle.wdf_model.specs.rules.Waits.{has_dpc_of, holders_of, no_cpu, queues_to_resume, resume_cpus, scope_holders, stage_frames}
 use Rattle.wdf_starts.proofs.Passing.{filter_twice}
 use Rattle.wdf_maps.specs.Least.{lesser_if}
-use Rattle.wdf_causes.specs.Keepers.{frames_on_queue, is_interrupt_at, is_managed_at, is_to_resume, resume_holders, some_resume}
+use Rattle.wdf_causes.specs.Keepers.{frames_on_queue, is_managed_at, is_to_resume, resume_holders, some_resume}
 use Rattle.wdf_causes.proofs.Ranges.{any_filtered, any_next, any_stops, any_ends}
 use Rattle.wdf_causes.proofs.Searches.{flat_map_filtered, least_next, least_ends}
 
@@ -34,7 +34,7 @@ from_one plan = let e : suc (length plan.declared) - (0 + 1) ≡ length plan.dec
 
 module _ {A : Type 0} (plan : Plan) (S : State A) (d cpu : ℕ) where
   queued : ℕ → Bool
-  queued i = is_interrupt_at plan d i && contains i (dpcs_of S.dpcs cpu)
+  queued i = is_interrupt_of d (interrupt_of plan i) && contains i (dpcs_of S.dpcs cpu)
 
   -- whether one of those after this many is
   pub queued_from : ℕ → Bool
@@ -42,13 +42,13 @@ module _ {A : Type 0} (plan : Plan) (S : State A) (d cpu : ℕ) where
 
   pub queued_at_first : queued_from 0 ≡ has_dpc_of plan S d cpu
   unfolding queued_from queued
-  queued_at_first = ap (list_any queued) (from_one plan) ∙ sym (any_filtered (is_interrupt_at plan d) (λ i. contains i (dpcs_of S.dpcs cpu)) (declared_ids plan))
+  queued_at_first = ap (list_any queued) (from_one plan) ∙ sym (any_filtered (λ i. is_interrupt_of d (interrupt_of plan i)) (λ i. contains i (dpcs_of S.dpcs cpu)) (declared_ids plan))
 
-  pub queued_after : (k : ℕ) → k < length plan.declared → (is_interrupt_at plan d (k + 1) && contains (k + 1) (dpcs_of S.dpcs cpu)) ≡ false → queued_from (k + 1) ≡ queued_from k
+  pub queued_after : (k : ℕ) → k < length plan.declared → (is_interrupt_of d (interrupt_of plan (k + 1)) && contains (k + 1) (dpcs_of S.dpcs cpu)) ≡ false → queued_from (k + 1) ≡ queued_from k
   unfolding queued_from queued
   queued_after k h e = any_next queued (k + 1) (suc (length plan.declared)) (within plan k h) e
 
-  pub queued_here : (k : ℕ) → k < length plan.declared → (is_interrupt_at plan d (k + 1) && contains (k + 1) (dpcs_of S.dpcs cpu)) ≡ true → true ≡ queued_from k
+  pub queued_here : (k : ℕ) → k < length plan.declared → (is_interrupt_of d (interrupt_of plan (k + 1)) && contains (k + 1) (dpcs_of S.dpcs cpu)) ≡ true → true ≡ queued_from k
   unfolding queued_from queued
   queued_here k h e = any_stops queued (k + 1) (suc (length plan.declared)) (within plan k h) e
 

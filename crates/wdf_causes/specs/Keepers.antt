@@ -1,15 +1,12 @@
--- The queues and interrupts of a device by id, and the frames that keep a step of it.
+-- The queues of a device by id, and the frames that keep a step of it.
 use Rattle.std.specs.Prelude.{if◌then◌else◌, ℕ, Bool, nat_lt, ◌&&◌, List, [], length, filter}
 use Rattle.wdf_base.specs.declared.plan.Plan.{Plan}
 use Rattle.wdf_base.specs.declared.call.Callback.TheVariants as callback
-use Rattle.wdf_model.specs.Plans.{interrupt_of, is_interrupt_of, is_managed, is_queue_of, queue_of}
+use Rattle.wdf_model.specs.Plans.{is_managed, is_queue_of, queue_of}
 use Rattle.wdf_model.specs.parts.Cpus.{all_frames, is_on}
 use Rattle.wdf_model.specs.parts.Locks.{scope_of}
 use Rattle.wdf_model.specs.State.{State, declared_in}
 use Rattle.wdf_model.specs.rules.Waits.{has_dpc_of, head_lock, holders_of, resumes_at}
-
-abbrev pub is_interrupt_at : Plan → ℕ → ℕ → Bool
-is_interrupt_at plan d i = is_interrupt_of d (interrupt_of plan i)
 
 -- a power-managed queue of a device
 abbrev pub is_managed_at : Plan → ℕ → ℕ → Bool

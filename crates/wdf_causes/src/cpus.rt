@@ -3,7 +3,6 @@ ghost use Rattle.std.specs.Prelude.{◌≡◌};
 ghost use Rattle.wdf_base.specs.declared.event.Stage.TheVariants as stage;
 ghost use Rattle.wdf_base.specs.Callbacks.{dpc_function};
 ghost use Rattle.wdf_model.specs.rules.Waits as waits;
-ghost use Rattle.wdf_causes.specs.Keepers.{is_interrupt_at};
 
 use wdf_base::{Agent, Cpu, Irql, LockRef, ObjectId};
 use wdf_lock::scope_of;
@@ -30,14 +29,6 @@ pub fn no_cpu<A: Agent>(plan: &IndexedPlan, parts: &Parts<A>, level: Irql) -> bo
     true
 }
 
-/// Whether an id is that of an interrupt of this device.
-fn is_interrupt_of(plan: &IndexedPlan, d: ObjectId, i: ObjectId) -> bool
-    ensures { result ≡ is_interrupt_at plan.now d.0 i.0 }
-{
-    plan.interrupt_of(i)
-        .is_some_and(|interrupt| interrupt.device.0 == d.0)
-}
-
 #[tactic(auto, using(crate::proofs::OnDeclared::queued_at_first, crate::proofs::OnDeclared::queued_after, crate::proofs::OnDeclared::queued_here, crate::proofs::OnDeclared::queued_nowhere))]
 /// Whether a DPC of a device is in a processor's list.
 pub(crate) fn has_dpc_of<A: Agent>(
@@ -50,7 +41,7 @@ pub(crate) fn has_dpc_of<A: Agent>(
 {
     for k in 0..plan.declared_len() {
         let i = ObjectId(k + 1);
-        if is_interrupt_of(plan, d, i) && parts.dpcs().is_on(cpu, i) {
+        if plan.is_interrupt_of(d, i) && parts.dpcs().is_on(cpu, i) {
             return true;
         }
     }

@@ -2,7 +2,6 @@
 ghost use Rattle.std.specs.Prelude.{◌≡◌};
 ghost use Rattle.wdf_base.specs.declared.event.Step.TheVariants as step;
 ghost use Rattle.wdf_model.specs.Tables.{least};
-ghost use Rattle.wdf_model.specs.rules.Starts as starts;
 ghost use Rattle.wdf_model.specs.rules.Waits as waits;
 
 use crate::causes::{by_frame, by_request, least_lock_holder};
@@ -13,16 +12,7 @@ use wdf_base::{Agent, Callback, Cause, Handle, ObjectId, Stage};
 use wdf_maps::lesser_if;
 use wdf_parts::Parts;
 use wdf_plan_index::IndexedPlan;
-
-/// The id of an object, 0 where there is none.
-fn handle_id(object: Option<Handle>) -> ObjectId
-    ensures { result.0 ≡ starts.handle_id object }
-{
-    match object {
-        Some(object) => object.id,
-        None => ObjectId(0),
-    }
-}
+use wdf_starts::handle_id;
 
 /// The least request that keeps a stage of a device.
 fn least_stage_request<A: Agent>(

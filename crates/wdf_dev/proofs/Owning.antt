@@ -6,7 +6,7 @@ use Rattle.wdf_base.specs.declared.plan.Plan.{Plan}
 use Rattle.wdf_model.specs.Plans.{device_of_agent, devices_of, first_device_agent, target_of_agent, targets_of}
 use Rattle.wdf_dev.specs.Agents.{agent_at, device_or_target}
 
-none_past : (xs : List ℕ) (k : ℕ) → slice_get xs k ≡ None → length xs ≤ k
+pub none_past : (xs : List ℕ) (k : ℕ) → slice_get xs k ≡ None → length xs ≤ k
 none_past [] k h = omega arith
 none_past (x ∷ xs) zero h = absurd (let z : ⊥ = cc in z)
 none_past (x ∷ xs) (suc k) h = let l = none_past xs k h in omega arith

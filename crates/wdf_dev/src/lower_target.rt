@@ -51,7 +51,7 @@ impl Model for LowerTarget {
 }
 
 /// The object that an argument names.
-fn handle_in(argument: Arg) -> Option<Handle>
+pub fn handle_in(argument: Arg) -> Option<Handle>
     ensures { result ≡ target.handle_in_arg argument }
 {
     match argument {
@@ -67,15 +67,15 @@ fn is_due(now: u64, sent: &SentRequest) -> bool
     sent.told || sent.tick <= now
 }
 
-/// Whether an argument names this target.
-fn names(argument: Arg, o: ObjectId) -> bool
+/// Whether an argument names this object.
+pub fn names(argument: Arg, o: ObjectId) -> bool
     ensures { result ≡ (state.object_in argument == o.0) }
 {
     same_object_id(object_in(argument), o)
 }
 
 /// Whether an argument is the number 0.
-fn is_zero(argument: Arg) -> bool
+pub fn is_zero(argument: Arg) -> bool
     ensures { result ≡ faults.arg_is argument 0 }
 {
     matches!(argument, Arg::Val(Value::Num(0)))

@@ -1,5 +1,6 @@
 -- How an event changes what is known of a device, for each kind of event.
 use Rattle.std.proofs.Common.{if◌then◌else◌, ℕ, ◌≡◌, Bool, true, false, not, ◌&&◌, Option, Some, None, refl}
+use Rattle.std.proofs.Math.Bool.{and-true}
 use Rattle.wdf_base.specs.declared.ids.Handle.{Handle}
 use Rattle.wdf_base.specs.declared.event.Ask.{Ask}
 use Rattle.wdf_base.specs.declared.event.Action.{Action}
@@ -26,10 +27,6 @@ by_stage x d stage.Working i = refl
 by_stage x d stage.Sleeping i = refl
 by_stage x d stage.Removed i = refl
 
-and_yes : (b : Bool) → (b && true) ≡ b
-and_yes true = refl
-and_yes false = refl
-
 asked_as : (x : IdleDevice) (d : Handle) (a : Ask) (b : Bool) → is_of x d ≡ b
     → record x {
       awake = x.awake && not (is_of x d && ends_awake a);
@@ -38,7 +35,7 @@ asked_as : (x : IdleDevice) (d : Handle) (a : Ask) (b : Bool) → is_of x d ≡ 
       was_asleep = if is_of x d then x.asleep else x.was_asleep;
     } ≡ asked x d a
 asked_as x d a true h = rw h refl
-asked_as x d a false h = rw (h, and_yes x.awake, and_yes x.asleep) refl
+asked_as x d a false h = rw (h, and-true x.awake, and-true x.asleep) refl
 
 by_ask : (x : IdleDevice) (agent : ℕ) (d : Handle) (a : Ask) (answer : Option Handle) → changed x (event.Posted agent (post.Ask a d) answer) ≡ asked x d a
 by_ask x agent d a (Some r) = asked_as x d a (is_of x d) refl

@@ -1,5 +1,6 @@
 -- An event that concerns no device leaves the policy as it was.
 use Rattle.std.proofs.Common.{if◌then◌else◌, ℕ, ◌≡◌, ◌==◌, Bool, true, false, not, nat_lt, ◌&&◌, ◌||◌, List, [], ◌∷◌, map, refl, ap, sym, subst, arith}
+use Rattle.std.proofs.Math.Bool.{and-false, or-false}
 use Rattle.std.proofs.lemmas.Bool.Decides.{nat_tests}
 use Rattle.wdf_base.specs.declared.ids.Cpu.{Cpu}
 use Rattle.wdf_base.specs.declared.ids.Handle.{Handle}
@@ -52,17 +53,9 @@ no_completion : (k : CallKind) → is_completion k ≡ false → (c : Call) → 
 no_completion call.WdfRequestComplete h c e pending = let z : ⊥ = cc in absurd z
 no_completion _ h c e pending = rw e refl
 
-no_way : (b : Bool) → (b && false) ≡ false
-no_way true = refl
-no_way false = refl
-
-or_no : (b : Bool) → (b || false) ≡ b
-or_no true = refl
-or_no false = refl
-
 -- the end of another callback
 other_end : (cpu : Cpu) (c : Callback) (o : Handle) (v : Value) → is_query c ≡ false → (x : IdleDevice) → changed x (event.End cpu c o v) ≡ x
-other_end cpu c o v h x = rw (h, no_query c h, no_way x.was_awake, no_way x.was_asleep, or_no x.awake, or_no x.asleep) refl
+other_end cpu c o v h x = rw (h, no_query c h, and-false x.was_awake, and-false x.was_asleep, or-false x.awake, or-false x.asleep) refl
 
 -- another call
 other_call : (cpu : Cpu) (c : Call) (answer : Value) → is_completion c.kind ≡ false → (x : IdleDevice) → changed x (event.Did cpu c answer) ≡ x

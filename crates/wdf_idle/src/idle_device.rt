@@ -8,6 +8,7 @@ use wdf_base::{
     Access, Action, Ask, Call, CallKind, Callback, Event, Handle, ObjectId, Post, Stage, Status,
     Value, same_object_id,
 };
+use wdf_dev::is_query;
 use wdf_maps::{entry_at, put_at};
 use wdf_model::object_in;
 use wdf_same::same_value;
@@ -105,17 +106,7 @@ pub fn ends_asleep(ask: Ask) -> bool
     matches!(ask, Ask::Wake | Ask::Remove | Ask::Surprise)
 }
 
-/// Whether the driver of a working device may refuse by this callback what is asked.
-fn is_query(callback: Callback) -> bool
-    ensures { result ≡ model.is_query callback }
-{
-    matches!(
-        callback,
-        Callback::EvtDeviceQueryStop | Callback::EvtDeviceQueryRemove
-    )
-}
-
-/// Whether the driver of a sleeping device may.
+/// Whether the driver of a sleeping device may refuse by this callback what is asked.
 fn is_removal_query(callback: Callback) -> bool
     ensures { result ≡ model.is_removal_query callback }
 {

@@ -97,7 +97,7 @@ impl IndexedPlan {
     }
 
     /// Whether an id is that of an interrupt of this device.
-    fn is_interrupt_of(&self, device: ObjectId, i: ObjectId) -> bool
+    pub fn is_interrupt_of(&self, device: ObjectId, i: ObjectId) -> bool
         ensures { result ≡ plans.is_interrupt_of device.0 (plans.interrupt_of self.now i.0) }
     {
         self.interrupt_of(i)

@@ -5,3 +5,4 @@ mod control;
 mod modes;
 
 pub use control::Control;
+pub use modes::delivers_in;

@@ -27,7 +27,7 @@ pub(crate) fn accepts_in(mode: Mode) -> bool
 }
 
 /// Whether a queue of this mode presents requests. (KMDF: in Started and Drained)
-pub(crate) fn delivers_in(mode: Mode) -> bool
+pub fn delivers_in(mode: Mode) -> bool
     ensures { result ≡ control.delivers_in mode }
 {
     match mode {

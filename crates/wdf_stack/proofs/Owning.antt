@@ -4,12 +4,8 @@ use Rattle.std.proofs.lemmas.Bool.{le-ltb, lt-ltb}
 use Rattle.std.proofs.lemmas.Bool.Decides.{nat_tests}
 use Rattle.wdf_base.specs.declared.plan.Plan.{Plan}
 use Rattle.wdf_model.specs.Plans.{device_of_agent, devices_of, first_device_agent, target_of_agent, targets_of}
+use Rattle.wdf_dev.proofs.Owning.{none_past}
 use Rattle.wdf_stack.specs.Agents.{agent_at, device_or_target}
-
-none_past : (xs : List ℕ) (k : ℕ) → slice_get xs k ≡ None → length xs ≤ k
-none_past [] k h = omega arith
-none_past (x ∷ xs) zero h = absurd (let z : ⊥ = cc in z)
-none_past (x ∷ xs) (suc k) h = let l = none_past xs k h in omega arith
 
 owned_by : (plan : Plan) (k past : ℕ) (d : Option ℕ) → slice_get (devices_of plan) past ≡ d → first_device_agent plan ≤ k → past ≡ k - first_device_agent plan
     → device_or_target plan k (slice_get (devices_of plan) past) (slice_get (targets_of plan) (past - length (devices_of plan))) ≡ device_or_target plan k (device_of_agent plan k) (target_of_agent plan k)

@@ -3,11 +3,9 @@ ghost use Rattle.std.specs.List.{filter_map};
 ghost use Rattle.wdf_base.specs.declared.declared.PostLine.{PostLine};
 ghost use Rattle.wdf_base.specs.declared.script.AgentInfo.{AgentInfo};
 ghost use Rattle.wdf_model.specs.Plans.{first_device_agent};
-ghost use Rattle.wdf_model.specs.State as state;
 ghost use Rattle.wdf_model.specs.Tables as tables;
 ghost use Rattle.wdf_model.specs.agents.Connector as connector;
 ghost use Rattle.wdf_model.specs.agents.LowerTarget as target;
-ghost use Rattle.wdf_model.specs.rules.Faults as faults;
 
 use crate::chains::device_handle;
 use crate::line::Line;
@@ -15,9 +13,10 @@ use std::alloc::Global;
 use std::marker::Model;
 use wdf_base::{
     AgentInfo, Arg, Call, CallKind, Event, Handle, Memory, ObjectId, Plan, Post, PostLine, Status,
-    Value, same_object_id,
+    Value,
 };
 use wdf_declared::target_of;
+use wdf_dev::{handle_in, is_zero, names};
 use wdf_maps::Rising;
 use wdf_model::{Arrival, object_in};
 use wdf_same::same_value;
@@ -56,30 +55,6 @@ impl Model for Connector {
     ghost view = { λ s. record { agent = s.agent; target = s.target.0; lower = s.lower; depth = s.line.room; first = s.first; room = s.room; posted = s.posted; arrivals = s.arrivals.entries; sent = s.line.sent } };
 
     ghost invariant = { λ s. s.arrivals.room ≡ 4096 };
-}
-
-/// The object that an argument names.
-fn handle_in(argument: Arg) -> Option<Handle>
-    ensures { result ≡ target.handle_in_arg argument }
-{
-    match argument {
-        Arg::Val(Value::Obj(handle)) => Some(handle),
-        _ => None,
-    }
-}
-
-/// Whether an argument names this object.
-fn names(argument: Arg, o: ObjectId) -> bool
-    ensures { result ≡ (state.object_in argument == o.0) }
-{
-    same_object_id(object_in(argument), o)
-}
-
-/// Whether an argument is the number 0.
-fn is_zero(argument: Arg) -> bool
-    ensures { result ≡ faults.arg_is argument 0 }
-{
-    matches!(argument, Arg::Val(Value::Num(0)))
 }
 
 /// Whether a post is a read, a write or a control.

@@ -13,6 +13,7 @@ use wdf_base::{
     Status, Value, same_object_id,
 };
 use wdf_declared::device_of;
+use wdf_dev::is_query;
 use wdf_model::{AskPost, Phase, StackDevice};
 
 /// The stack manager: it posts each line for the whole chain of the line's device, a post when the one before has ended. It is
@@ -271,16 +272,6 @@ fn set_phase(devices: &mut [StackDevice], device: ObjectId, phase: Phase)
     for k in 0..devices.len() {
         devices[k] = with_phase_one(devices[k], device, phase);
     }
-}
-
-/// Whether a callback is a query that the driver may refuse.
-fn is_query(callback: Callback) -> bool
-    ensures { result ≡ manager.is_query callback }
-{
-    matches!(
-        callback,
-        Callback::EvtDeviceQueryStop | Callback::EvtDeviceQueryRemove
-    )
 }
 
 /// Whether a callback's value is SUCCESS.

@@ -35,7 +35,7 @@ pub(crate) fn is_callback(found: Option<Callback>, callback: Callback) -> bool
 }
 
 /// The id of an object, 0 where there is none.
-pub(crate) fn handle_id(object: Option<Handle>) -> ObjectId
+pub fn handle_id(object: Option<Handle>) -> ObjectId
     ensures { result.0 ≡ starts.handle_id object }
 {
     match object {

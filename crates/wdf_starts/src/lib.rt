@@ -20,6 +20,7 @@ mod sequences;
 mod settled;
 mod starts;
 
+pub use checks::handle_id;
 pub use deeds::{end_callback, new_frame, start_callback};
 pub use drained::is_drained;
 pub use lines::shown;

@@ -5,25 +5,15 @@ ghost use Rattle.wdf_base.specs.Places.{is_sent};
 ghost use Rattle.wdf_model.specs.State.{handle_in};
 ghost use Rattle.wdf_model.specs.Tables.{least};
 ghost use Rattle.wdf_waits.specs.Lines as lines;
-ghost use Rattle.wdf_model.specs.parts.Control as control;
 ghost use Rattle.wdf_model.specs.rules.Ready as ready;
 ghost use Rattle.wdf_model.specs.rules.Waits as waits;
 
 use wdf_base::{Agent, Callback, Cause, ObjectId, OpenThing, Place, WaitLine};
 use wdf_causes::{least_ahead, no_cpu, scope_is_held};
-use wdf_model::{Mode, Request};
+use wdf_model::Request;
 use wdf_parts::Parts;
 use wdf_plan_index::IndexedPlan;
-
-/// Whether a queue delivers in a mode. (KMDF)
-fn delivers_in(mode: Mode) -> bool
-    ensures { result ≡ control.delivers_in mode }
-{
-    match mode {
-        Mode::Started | Mode::Drained => true,
-        Mode::Stopped | Mode::Purged => false,
-    }
-}
+use wdf_qctl::delivers_in;
 
 /// Whether the scope lock of a queue's callbacks is held.
 fn queue_scope_held<A: Agent>(plan: &IndexedPlan, parts: &Parts<A>, q: ObjectId) -> bool
