@@ -7,6 +7,7 @@ pub mod Early
 pub mod Lists
 pub mod Courses
 pub mod Runs
+pub mod Starting
 pub mod Open
 pub mod Unsettled
 pub mod UnsettledRuns
