@@ -1,5 +1,5 @@
 -- What a start of a run was allowed by.
-use Rattle.std.proofs.Common.{◌≡◌, ℕ, true, List, ◌×◌, Option, Some, slice_get, take}
+use Rattle.std.proofs.Common.{◌≡◌, ℕ, true, List, Option, Some, slice_get, take}
 use Rattle.wdf_base.specs.Meaning.{Meaning}
 use Rattle.wdf_base.specs.declared.plan.Plan.{Plan}
 use Rattle.wdf_base.specs.declared.ids.Cpu.{Cpu}
@@ -16,7 +16,7 @@ use Rattle.wdf_model.specs.rules.Ready.{IsRunOf, state_after}
 use Rattle.wdf_model.proofs.Tests.{both_left, both_right}
 use Rattle.law_machine_lives.proofs.Keeping.{comes}
 
-record Allowed {A : Type 0} (plan : Plan) (S : State A) (cpu o : ℕ) (c : Callback) : Type 0 where
+pub record Allowed {A : Type 0} (plan : Plan) (S : State A) (cpu o : ℕ) (c : Callback) : Type 0 where
   life : life_fits S c o ≡ true
   level : level_fits S cpu (callback_irql plan c o) ≡ true
   lock : is_free_if_any S.locks (lock_of_callback plan c o (declared_in plan S o)) ≡ true
