@@ -17,9 +17,9 @@ use Rattle.wdf_model.proofs.Tests.{both_left, both_right}
 use Rattle.law_machine_lives.proofs.Keeping.{comes}
 
 pub record Allowed {A : Type 0} (plan : Plan) (S : State A) (cpu o : ℕ) (c : Callback) : Type 0 where
-  life : life_fits S c o ≡ true
-  level : level_fits S cpu (callback_irql plan c o) ≡ true
-  lock : is_free_if_any S.locks (lock_of_callback plan c o (declared_in plan S o)) ≡ true
+  pub life : life_fits S c o ≡ true
+  pub level : level_fits S cpu (callback_irql plan c o) ≡ true
+  pub lock : is_free_if_any S.locks (lock_of_callback plan c o (declared_in plan S o)) ≡ true
 
 by_may : {A : Type 0} (plan : Plan) (m : Meaning A) (S : State A) (cpu : Cpu) (c : Callback) (o : Handle) (r : Option Handle) → may plan m S (event.Start cpu c o r) ≡ true → Allowed plan S cpu.0 o.id.0 c
 by_may plan m S cpu c o r h = record { life = search (both_left, both_right); level = search (both_left, both_right); lock = search (both_left, both_right) }
