@@ -9,9 +9,9 @@ ghost use Rattle.wdf_base.specs.declared.call.Callback.{Callback};
 ghost use Rattle.wdf_base.specs.declared.event.Event.{Event};
 ghost use Rattle.wdf_base.specs.declared.event.Event.TheVariants as event;
 ghost use Rattle.wdf_model.specs.Plans.{callback_irql};
-ghost use Rattle.wdf_model.specs.State.{declared_in};
+ghost use Rattle.wdf_model.specs.State.{declared_in, declares_in};
 ghost use Rattle.wdf_model.specs.parts.Locks.{is_free_if_any, lock_of_callback};
-ghost use Rattle.wdf_model.specs.rules.Starts.{level_fits, life_fits};
+ghost use Rattle.wdf_model.specs.rules.Starts.{is_ready_for, level_fits, life_fits};
 ghost use Rattle.wdf_model.specs.rules.Ready.{IsRunOf, state_after};
 ghost use Rattle.law_machine_states.specs.States.{FramesBeforeCleanup, MarksAgree, NothingBelowCleaned, ParentsThere};
 
@@ -37,10 +37,12 @@ pub fn parents_there<A>()
     ensures { (plan : Plan) (m : Meaning A) (run : List Event) → IsResolved plan → IsRunOf plan m run → (n : ℕ) → ParentsThere (state_after plan m (take n run)) }
 {}
 
-/// In every run a callback starts only where its object and its processor allow it. Its object is live; that of a cleanup
-/// callback is asked, and that of a destroy callback is cleaned. The processor is empty, or has a lower level than the
-/// callback. The lock that the callback needs is free.
+/// In every run a callback starts only where it is allowed. Something declares it for the object, and it is due. Its object is
+/// live; that of a cleanup callback is asked, and that of a destroy callback is cleaned. The processor is empty, or has a
+/// lower level than the callback. The lock that the callback needs is free.
 pub fn starts_are_allowed<A>()
+    ensures declared { (plan : Plan) (m : Meaning A) (run : List Event) → IsRunOf plan m run → (n : ℕ) (cpu : Cpu) (c : Callback) (o : Handle) (r : Option Handle) → slice_get run n ≡ Some (event.Start cpu c o r) → declares_in plan (state_after plan m (take n run)) c o.id.0 ≡ true }
+    ensures due { (plan : Plan) (m : Meaning A) (run : List Event) → IsRunOf plan m run → (n : ℕ) (cpu : Cpu) (c : Callback) (o : Handle) (r : Option Handle) → slice_get run n ≡ Some (event.Start cpu c o r) → is_ready_for plan m (state_after plan m (take n run)) cpu.0 c o.id.0 r ≡ true }
     ensures life { (plan : Plan) (m : Meaning A) (run : List Event) → IsRunOf plan m run → (n : ℕ) (cpu : Cpu) (c : Callback) (o : Handle) (r : Option Handle) → slice_get run n ≡ Some (event.Start cpu c o r) → life_fits (state_after plan m (take n run)) c o.id.0 ≡ true }
     ensures level { (plan : Plan) (m : Meaning A) (run : List Event) → IsRunOf plan m run → (n : ℕ) (cpu : Cpu) (c : Callback) (o : Handle) (r : Option Handle) → slice_get run n ≡ Some (event.Start cpu c o r) → level_fits (state_after plan m (take n run)) cpu.0 (callback_irql plan c o.id.0) ≡ true }
     ensures lock { (plan : Plan) (m : Meaning A) (run : List Event) → IsRunOf plan m run → (n : ℕ) (cpu : Cpu) (c : Callback) (o : Handle) (r : Option Handle) → slice_get run n ≡ Some (event.Start cpu c o r) → is_free_if_any (state_after plan m (take n run)).locks (lock_of_callback plan c o.id.0 (declared_in plan (state_after plan m (take n run)) o.id.0)) ≡ true }
