@@ -2,11 +2,11 @@
 ghost use Rattle.std.specs.Prelude.{◌≡◌, ◌^◌, ◌<◌, List, codes, map, length, string_bytes, Some, IfOk};
 ghost use Rattle.serde_json.specs.Data.{object, member, no_members, string};
 ghost use Rattle.serde_json.specs.Read.{read};
-ghost use Rattle.serde_json.specs.View.{view, items_of};
+ghost use Rattle.serde_json.specs.View.{view, items_of, members_view};
 ghost use Rattle.wdf_perfetto.specs.Titles.{plain, group_number, group_word, sort_word};
 ghost use Rattle.wdf_perfetto.specs.Rows.{names_data, name_data, slice_data, span_data, mark_data, counter_data, clock_data, count, written, line_written, row_data, document_data};
 
-use crate::members::{with, with_number, with_text};
+use crate::members::{Members, with, with_number, with_text};
 use crate::row::{Group, Row, Sort, Title, Track};
 use crate::rows::rows_of;
 use crate::titles::{line_at, title_text};
@@ -22,15 +22,28 @@ fn text_argument(alloc: Global, key: &'static str, text: &str) -> Result<Value, 
     Ok(Value::Object(members))
 }
 
+/// The members that each row has: its arguments, its name, the letter of its phase and its group.
+fn row_members(
+    alloc: Global,
+    arguments: Value,
+    name: &str,
+    letter: &str,
+    group: Group,
+) -> Result<Members, Memory>
+    ensures { IfOk result (λ m. members_view m.entries ≡ member (codes "args") (view arguments) (member (codes "name") (string name.now) (member (codes "ph") (string letter.now) (member (codes "pid") (count (group_number group)) no_members)))) }
+{
+    let members = with(alloc, Map::new(alloc), "args", arguments)?;
+    let members = with_text(alloc, members, "name", name)?;
+    let members = with_text(alloc, members, "ph", letter)?;
+    with_number(alloc, members, "pid", group.number())
+}
+
 /// The JSON of a group's name.
 fn names_value(alloc: Global, group: Group) -> Result<Value, Memory>
     ensures { IfOk result (λ v. view v ≡ names_data (group_word group) (group_number group)) }
 {
     let name = text_argument(alloc, "name", group.word())?;
-    let members = with(alloc, Map::new(alloc), "args", name)?;
-    let members = with_text(alloc, members, "name", "process_name")?;
-    let members = with_text(alloc, members, "ph", "M")?;
-    let members = with_number(alloc, members, "pid", group.number())?;
+    let members = row_members(alloc, name, "process_name", "M", group)?;
     Ok(Value::Object(members))
 }
 
@@ -39,10 +52,7 @@ fn name_value(alloc: Global, name: &str, track: Track) -> Result<Value, Memory>
     ensures { IfOk result (λ v. view v ≡ name_data name.now (group_number track.group) track.number) }
 {
     let name = text_argument(alloc, "name", name)?;
-    let members = with(alloc, Map::new(alloc), "args", name)?;
-    let members = with_text(alloc, members, "name", "thread_name")?;
-    let members = with_text(alloc, members, "ph", "M")?;
-    let members = with_number(alloc, members, "pid", track.group.number())?;
+    let members = row_members(alloc, name, "thread_name", "M", track.group)?;
     let members = with_number(alloc, members, "tid", u64::from(track.number))?;
     Ok(Value::Object(members))
 }
@@ -59,11 +69,8 @@ fn slice_value(
     ensures { IfOk result (λ v. view v ≡ slice_data name.now line.now (group_number track.group) track.number from length) }
 {
     let line = text_argument(alloc, "line", line)?;
-    let members = with(alloc, Map::new(alloc), "args", line)?;
+    let members = row_members(alloc, line, name, "X", track.group)?;
     let members = with_number(alloc, members, "dur", length)?;
-    let members = with_text(alloc, members, "name", name)?;
-    let members = with_text(alloc, members, "ph", "X")?;
-    let members = with_number(alloc, members, "pid", track.group.number())?;
     let members = with_number(alloc, members, "tid", u64::from(track.number))?;
     let members = with_number(alloc, members, "ts", from)?;
     Ok(Value::Object(members))
@@ -88,12 +95,9 @@ fn span_value(
     ensures { IfOk result (λ v. view v ≡ span_data letter.now name.now line.now (sort_word of.sort) of.key (group_number Group.Requests) at) }
 {
     let line = text_argument(alloc, "line", line)?;
-    let members = with(alloc, Map::new(alloc), "args", line)?;
+    let members = row_members(alloc, line, name, letter, Group::Requests)?;
     let members = with_text(alloc, members, "cat", of.sort.word())?;
     let members = with_number(alloc, members, "id", u64::from(of.key))?;
-    let members = with_text(alloc, members, "name", name)?;
-    let members = with_text(alloc, members, "ph", letter)?;
-    let members = with_number(alloc, members, "pid", Group::Requests.number())?;
     let members = with_number(alloc, members, "tid", 0)?;
     let members = with_number(alloc, members, "ts", u64::from(at))?;
     Ok(Value::Object(members))
@@ -104,10 +108,7 @@ fn mark_value(alloc: Global, name: &str, line: &str, track: Track, at: u32) -> R
     ensures { IfOk result (λ v. view v ≡ mark_data name.now line.now (group_number track.group) track.number at) }
 {
     let line = text_argument(alloc, "line", line)?;
-    let members = with(alloc, Map::new(alloc), "args", line)?;
-    let members = with_text(alloc, members, "name", name)?;
-    let members = with_text(alloc, members, "ph", "i")?;
-    let members = with_number(alloc, members, "pid", track.group.number())?;
+    let members = row_members(alloc, line, name, "i", track.group)?;
     let members = with_text(alloc, members, "s", "t")?;
     let members = with_number(alloc, members, "tid", u64::from(track.number))?;
     let members = with_number(alloc, members, "ts", u64::from(at))?;
@@ -133,10 +134,7 @@ fn counter_value(
 ) -> Result<Value, Memory>
     ensures { IfOk result (λ v. view v ≡ counter_data name.now (view arguments) (group_number group) at) }
 {
-    let members = with(alloc, Map::new(alloc), "args", arguments)?;
-    let members = with_text(alloc, members, "name", name)?;
-    let members = with_text(alloc, members, "ph", "C")?;
-    let members = with_number(alloc, members, "pid", group.number())?;
+    let members = row_members(alloc, arguments, name, "C", group)?;
     let members = with_number(alloc, members, "ts", u64::from(at))?;
     Ok(Value::Object(members))
 }

@@ -322,16 +322,42 @@ impl Rows {
         Ok(())
     }
 
+    /// Adds the spans of requests, and what happens within them.
+    fn spans(&mut self, spans: &[RequestSpan], requests: &Requests) -> Result<(), Memory> {
+        self.begins(spans)?;
+        self.places(requests)?;
+        self.ends(spans)
+    }
+
     /// Adds the requests and the queues.
     fn requests(&mut self, alloc: Global, plan: &Plan, events: &[Event]) -> Result<(), Memory>
         requires { length events.now < 2 ^ 32 }
     {
         let requests = requests_of(alloc, plan, events)?;
         let spans = spans_of(alloc, events, &requests)?;
-        self.begins(spans.as_slice())?;
-        self.places(&requests)?;
-        self.ends(spans.as_slice())?;
+        self.spans(spans.as_slice(), &requests)?;
         self.counts(plan, requests.queue_pieces())
+    }
+
+    /// Adds the callbacks, and what they do.
+    fn callbacks(&mut self, alloc: Global, events: &[Event]) -> Result<(), Memory>
+        requires { length events.now < 2 ^ 32 }
+    {
+        let frames: Frames = frames_of(alloc, events)?;
+        self.stays(events, frames.stays())?;
+        self.pieces(events, frames.pieces())
+    }
+
+    /// Adds all rows of a run.
+    fn run(&mut self, alloc: Global, plan: &Plan, events: &[Event]) -> Result<(), Memory>
+        requires { length events.now < 2 ^ 32 }
+    {
+        self.groups()?;
+        self.cpus(plan)?;
+        self.callbacks(alloc, events)?;
+        self.devices(alloc, plan, events)?;
+        self.moments(events)?;
+        self.requests(alloc, plan, events)
     }
 }
 
@@ -346,13 +372,6 @@ pub fn rows_of(alloc: Global, plan: &Plan, events: &[Event]) -> Result<Vec<Row>,
     let mut rows = Rows {
         rows: Vec::new(alloc),
     };
-    rows.groups()?;
-    rows.cpus(plan)?;
-    let frames: Frames = frames_of(alloc, events)?;
-    rows.stays(events, frames.stays())?;
-    rows.pieces(events, frames.pieces())?;
-    rows.devices(alloc, plan, events)?;
-    rows.moments(events)?;
-    rows.requests(alloc, plan, events)?;
+    rows.run(alloc, plan, events)?;
     Ok(rows.rows)
 }
