@@ -1,6 +1,5 @@
 -- A request that arrives wasn't completed before.
 use Rattle.std.proofs.Common.{◌≡◌, ◌<◌, ℕ, Bool, true, false, List, Option, Some, None, take, refl, ap, subst, arith}
-use Rattle.std.proofs.lemmas.Bool.{eqb-true}
 use Rattle.wdf_base.proofs.Tests.{both_left}
 use Rattle.wdf_base.specs.Meaning.{Meaning}
 use Rattle.wdf_base.specs.declared.ids.Handle.{Handle}
@@ -12,17 +11,14 @@ use Rattle.wdf_model.specs.parts.Tree.{next_id}
 use Rattle.wdf_model.specs.rules.Ready.{IsRunOf, state_after}
 use Rattle.wdf_laws.specs.declared.sign.Sign.TheVariants as sign
 use Rattle.wdf_laws.specs.declared.sign.Told.{Told}
-use Rattle.wdf_laws.specs.Events.{brought_to, completed, id_in, is_id, is_there, or_none, told, told_of, where_so}
+use Rattle.wdf_laws.specs.Events.{brought_to, completed, id_in, is_there, or_none, told, told_of, where_so}
 use Rattle.wdf_laws.specs.Laws.{completes_once}
 use Rattle.wdf_laws.specs.Signs.{shows}
 use Rattle.wdf_laws.specs.Words.{ever}
 use Rattle.law_trace_once.proofs.Completions.{completes_at_each}
 use Rattle.law_trace_families.proofs.Families.{family_at_each}
 use Rattle.law_trace_families.proofs.Drained.{ever_place, told_from}
-
-is_some_id : (r : ℕ) (o : Option ℕ) → is_id r o ≡ true → o ≡ Some r
-is_some_id r None h = absurd (let z : ⊥ = cc in z)
-is_some_id r (Some x) h = ap Some (eqb-true x r h)
+use Rattle.law_idle.proofs.Pending.{is_some_id}
 
 tells_by : (plan : Plan) (r : ℕ) (agent : ℕ) (p : Post) (answer : Option Handle) → shows (sign.Arrival r) (event.Posted agent p answer) ≡ true → (t : Told) × (told plan (event.Posted agent p answer) ≡ Some t) × (t.object ≡ r)
 tells_by plan r agent p answer h =

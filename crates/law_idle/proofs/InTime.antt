@@ -24,6 +24,7 @@ use Rattle.wdf_model.specs.rules.Ready.{IsRunOf, state_after}
 use Rattle.wdf_model.specs.agents.App.{App, app_due, due_line, next_line}
 use Rattle.wdf_model.specs.agents.IdlePolicy.{IdleDevice, IdlePolicy, count_of, first_post, idle_post, policy_due, timeout_of}
 use Rattle.wdf_model.specs.agents.IdlePolicy as policies
+use Rattle.wdf_model.proofs.Counts.{equal}
 use Rattle.wdf_model.proofs.Runs.{take_ended, take_next}
 use Rattle.wdf_model.proofs.Sames.{handle_decides}
 use Rattle.wdf_model.proofs.Tests.{both}
@@ -46,9 +47,6 @@ within a b h = grind (arith, nat_tests)
 
 some : (n : ℕ) → nat_lt 0 n ≡ true → 1 ≤ n
 some n h = grind (arith, nat_tests)
-
-equals : (a b : ℕ) → a ≡ b → (a == b) ≡ true
-equals a b h = grind (arith, nat_tests)
 
 -- a device that is idle and doesn't start anew was idle
 was_idle : (a b p q h k : Bool) → (b && not q && not k) ≡ true → ((not a && b) || (p && not q) || (h && not k)) ≡ false → (a && not p && not h) ≡ true
@@ -262,7 +260,7 @@ module _ {A : Type 0} (plan : Plan) (m : Meaning A) (policy : A → Option IdleP
             (let l = within (x.since + x.timeout) (k n).now.manager.clock b.2 in let s = w.told.since in let t = w.told.timeout in let c = (k n).clock in omega (arith, l, s, t, c)) in
             let most = in_time x.device.id.0 n w.info w.declared w.part idle in
             let exact : time_after (take n run) ≡ since plan x.device.id.0 (take n run) + timeout_of plan x.device.id.0 = omega (arith, long, most) in
-            let well : slept_well n x.device.id.0 ≡ true = both (is_idle plan x.device.id.0 (take n run)) _ idle (equals _ _ exact) in
+            let well : slept_well n x.device.id.0 ≡ true = both (is_idle plan x.device.id.0 (take n run)) _ idle (equal _ _ exact) in
             subst (λ (y : Handle). slept_well n y.id.0 ≡ true) device well
       ]
 
@@ -293,12 +291,12 @@ module _ {A : Type 0} (plan : Plan) (m : Meaning A) (policy : A → Option IdleP
   sleep_line : (n : ℕ) (h : Handle) (q : Post) → q ≡ post.Ask asks.Sleep h → app_due (k n).now.manager ≡ Some q → is_sent_to_sleep plan h.id.0 ≡ true
   sleep_line n h q is due =
       let l = line_at n q due in
-      any_at (λ (y : PostLine). is_sleep_of h.id.0 y.post) plan.pnp (k n).now.manager.posted l.0 l.1 (ap (is_sleep_of h.id.0) (l.2 ∙ is) ∙ equals h.id.0 h.id.0 refl)
+      any_at (λ (y : PostLine). is_sleep_of h.id.0 y.post) plan.pnp (k n).now.manager.posted l.0 l.1 (ap (is_sleep_of h.id.0) (l.2 ∙ is) ∙ equal h.id.0 h.id.0 refl)
 
   wake_line : (n : ℕ) (h : Handle) (q : Post) → q ≡ post.Ask asks.Wake h → app_due (k n).now.manager ≡ Some q → is_woken_by_line plan h.id.0 ≡ true
   wake_line n h q is due =
       let l = line_at n q due in
-      any_at (λ (y : PostLine). is_wake_of h.id.0 y.post) plan.pnp (k n).now.manager.posted l.0 l.1 (ap (is_wake_of h.id.0) (l.2 ∙ is) ∙ equals h.id.0 h.id.0 refl)
+      any_at (λ (y : PostLine). is_wake_of h.id.0 y.post) plan.pnp (k n).now.manager.posted l.0 l.1 (ap (is_wake_of h.id.0) (l.2 ∙ is) ∙ equal h.id.0 h.id.0 refl)
 
   sleeps_by : (n : ℕ) (h : Handle) (q : Post) (o : Option Post) → q ≡ post.Ask asks.Sleep h → first_post (k n).now ≡ o → first_there o (app_due (k n).now.manager) ≡ Some q → sleeps_in_time plan (take n run) h.id.0 ≡ true
   sleeps_by n h q None is f due = on_left (not (takes_part plan h.id.0) || is_sent_to_sleep plan h.id.0) (slept_well n h.id.0) (on_right (not (takes_part plan h.id.0)) (is_sent_to_sleep plan h.id.0) (sleep_line n h q is due))

@@ -1,8 +1,10 @@
 -- Each list of steps that the machine gives is tidy.
 use Rattle.std.proofs.Common.{if◌then◌else◌, ◌≡◌, Bool, true, false, not, ◌&&◌, ◌||◌, List, [], ◌∷◌, ◌++◌, reverse, None, Some, refl, sym, ap, subst, ◌∙◌}
 use Rattle.std.specs.List.{flat_map, list_all, list_any}
+use Rattle.std.proofs.lemmas.Bool.{or_from}
 use Rattle.std.proofs.lemmas.List.Concat.{flat_map-cons}
-use Rattle.wdf_base.proofs.Tests.{both_left, both_right, both}
+use Rattle.std.proofs.lemmas.List.Folds.{list_all-append, list_any-append}
+use Rattle.wdf_base.proofs.Tests.{all_three, both_left, both_right, both, either_false, not_true}
 use Rattle.wdf_base.specs.declared.call.Callback.{Callback}
 use Rattle.wdf_base.specs.declared.call.Callback.TheVariants as callback
 use Rattle.wdf_base.specs.declared.event.Ask.{Ask}
@@ -34,43 +36,18 @@ record Close (ss : List Step) : Type 0 where
   tidy : is_tidy ss ≡ true
   asks_not : has_query ss ≡ false
 
--- ---- truth values
-
-not_so : (a : Bool) → not a ≡ true → a ≡ false
-not_so true h = absurd (let z : ⊥ = cc in z)
-not_so false h = refl
-
-neither : (a b : Bool) → (a || b) ≡ false → (a ≡ false) × (b ≡ false)
-neither true b h = absurd (let z : ⊥ = cc in z)
-neither false b h = (refl, h)
-
-any_behind : (p : Step → Bool) (xs ys : List Step) → list_any p (xs ++ ys) ≡ (list_any p xs || list_any p ys)
-any_behind p [] ys = refl
-any_behind p (x ∷ xs) ys = rw (any_behind p xs ys) (nested (p x) (list_any p xs) (list_any p ys))
-  where
-    nested : (a b c : Bool) → (a || (b || c)) ≡ ((a || b) || c)
-    nested true b c = refl
-    nested false b c = refl
-
-all_behind : (p : Step → Bool) (xs ys : List Step) → list_all p xs ≡ true → list_all p ys ≡ true → list_all p (xs ++ ys) ≡ true
-all_behind p [] ys h k = k
-all_behind p (x ∷ xs) ys h k = both (p x) (list_all p (xs ++ ys)) (both_left (p x) (list_all p xs) h) (all_behind p xs ys (both_right (p x) (list_all p xs) h) k)
-
 -- ---- one list behind another
 
-three : (a b c : Bool) → a ≡ true → b ≡ true → c ≡ true → (a && b && c) ≡ true
-three a b c h k l = rw (h, k, l) refl
+all_behind : (p : Step → Bool) (xs ys : List Step) → list_all p xs ≡ true → list_all p ys ≡ true → list_all p (xs ++ ys) ≡ true
+all_behind p xs ys h k = list_all-append p xs ys ∙ both (list_all p xs) (list_all p ys) h k
 
 -- what is said of a tidy list that goes on
-tail_tidy : (s : Step) (ss : List Step) → is_tidy (s ∷ ss) ≡ true → is_tidy ss ≡ true
-tail_tidy s ss h = both_right ((not (is_rest_step s) || is_end ss) && not (has_query ss)) (is_tidy ss) h
+pub tidy_tail : (s : Step) (ss : List Step) → is_tidy (s ∷ ss) ≡ true → is_tidy ss ≡ true
+tidy_tail s ss h = both_right ((not (is_rest_step s) || is_end ss) && not (has_query ss)) (is_tidy ss) h
 
 pub tail_asks_not : (s : Step) (ss : List Step) → is_tidy (s ∷ ss) ≡ true → has_query ss ≡ false
 tail_asks_not s ss h =
-    not_so (has_query ss) (both_right (not (is_rest_step s) || is_end ss) (not (has_query ss)) (both_left ((not (is_rest_step s) || is_end ss) && not (has_query ss)) (is_tidy ss) h))
-
-pub tidy_tail : (s : Step) (ss : List Step) → is_tidy (s ∷ ss) ≡ true → is_tidy ss ≡ true
-tidy_tail s ss h = tail_tidy s ss h
+    not_true (has_query ss) (both_right (not (is_rest_step s) || is_end ss) (not (has_query ss)) (both_left ((not (is_rest_step s) || is_end ss) && not (has_query ss)) (is_tidy ss) h))
 
 none_left : (ss : List Step) → is_end ss ≡ true → ss ≡ []
 none_left [] h = refl
@@ -91,32 +68,29 @@ or_neither a b h k = rw (h, k) refl
 tidy_behind : (xs ys : List Step) → Open xs → Close ys → is_tidy (xs ++ ys) ≡ true
 tidy_behind [] ys o c = c.tidy
 tidy_behind (x ∷ xs) ys o c =
-    let n = neither (is_rest_step x) (list_any is_rest_step xs) o.goes_on in
-    let quiet : has_query (xs ++ ys) ≡ false = any_behind is_query_step xs ys ∙ both_off (has_query xs) (has_query ys) (tail_asks_not x xs o.tidy) c.asks_not in
-    three (not (is_rest_step x) || is_end (xs ++ ys)) (not (has_query (xs ++ ys))) (is_tidy (xs ++ ys)) (or_so (is_rest_step x) (is_end (xs ++ ys)) n.0) (ap not quiet)
-    (tidy_behind xs ys (record { tidy = tail_tidy x xs o.tidy; goes_on = n.1 }) c)
-  where
-    both_off : (a b : Bool) → a ≡ false → b ≡ false → (a || b) ≡ false
-    both_off a b h k = rw (h, k) refl
+    let n = either_false (is_rest_step x) (list_any is_rest_step xs) o.goes_on in
+    let quiet : has_query (xs ++ ys) ≡ false = list_any-append is_query_step xs ys ∙ or_from (has_query xs) (has_query ys) (tail_asks_not x xs o.tidy) c.asks_not in
+    all_three (not (is_rest_step x) || is_end (xs ++ ys)) (not (has_query (xs ++ ys))) (is_tidy (xs ++ ys)) (or_so (is_rest_step x) (is_end (xs ++ ys)) n.0) (ap not quiet)
+    (tidy_behind xs ys (record { tidy = tidy_tail x xs o.tidy; goes_on = n.1 }) c)
 
 plain_asks_not : (ss : List Step) → all_plain ss ≡ true → has_query ss ≡ false
 plain_asks_not [] h = refl
 plain_asks_not (s ∷ ss) h =
-    let one : is_query_step s ≡ false = not_so (is_query_step s) (both_right (not (is_rest_step s)) (not (is_query_step s)) (both_left (is_plain s) (all_plain ss) h)) in
+    let one : is_query_step s ≡ false = not_true (is_query_step s) (both_right (not (is_rest_step s)) (not (is_query_step s)) (both_left (is_plain s) (all_plain ss) h)) in
     rw one (plain_asks_not ss (both_right (is_plain s) (all_plain ss) h))
 
 plain_goes_on : (ss : List Step) → all_plain ss ≡ true → list_any is_rest_step ss ≡ false
 plain_goes_on [] h = refl
 plain_goes_on (s ∷ ss) h =
-    let one : is_rest_step s ≡ false = not_so (is_rest_step s) (both_left (not (is_rest_step s)) (not (is_query_step s)) (both_left (is_plain s) (all_plain ss) h)) in
+    let one : is_rest_step s ≡ false = not_true (is_rest_step s) (both_left (not (is_rest_step s)) (not (is_query_step s)) (both_left (is_plain s) (all_plain ss) h)) in
     rw one (plain_goes_on ss (both_right (is_plain s) (all_plain ss) h))
 
 plain_tidy : (ss : List Step) → all_plain ss ≡ true → is_tidy ss ≡ true
 plain_tidy [] h = refl
 plain_tidy (s ∷ ss) h =
     let more : all_plain ss ≡ true = both_right (is_plain s) (all_plain ss) h in
-    let one : is_rest_step s ≡ false = not_so (is_rest_step s) (both_left (not (is_rest_step s)) (not (is_query_step s)) (both_left (is_plain s) (all_plain ss) h)) in
-    three (not (is_rest_step s) || is_end ss) (not (has_query ss)) (is_tidy ss) (or_so (is_rest_step s) (is_end ss) one) (ap not (plain_asks_not ss more)) (plain_tidy ss more)
+    let one : is_rest_step s ≡ false = not_true (is_rest_step s) (both_left (not (is_rest_step s)) (not (is_query_step s)) (both_left (is_plain s) (all_plain ss) h)) in
+    all_three (not (is_rest_step s) || is_end ss) (not (has_query ss)) (is_tidy ss) (or_so (is_rest_step s) (is_end ss) one) (ap not (plain_asks_not ss more)) (plain_tidy ss more)
 
 plain_open : (ss : List Step) → all_plain ss ≡ true → Open ss
 plain_open ss h = record { tidy = plain_tidy ss h; goes_on = plain_goes_on ss h }
@@ -127,13 +101,13 @@ plain_close ss h = record { tidy = plain_tidy ss h; asks_not = plain_asks_not ss
 open_behind : (xs ys : List Step) → Open xs → all_plain ys ≡ true → Open (xs ++ ys)
 open_behind xs ys o h = record {
   tidy = tidy_behind xs ys o (plain_close ys h);
-  goes_on = any_behind is_rest_step xs ys ∙ rw (o.goes_on, plain_goes_on ys h) refl;
+  goes_on = list_any-append is_rest_step xs ys ∙ rw (o.goes_on, plain_goes_on ys h) refl;
 }
 
 close_behind : (xs ys : List Step) → all_plain xs ≡ true → Close ys → Close (xs ++ ys)
 close_behind xs ys h c = record {
   tidy = tidy_behind xs ys (plain_open xs h) c;
-  asks_not = any_behind is_query_step xs ys ∙ rw (plain_asks_not xs h, c.asks_not) refl;
+  asks_not = list_any-append is_query_step xs ys ∙ rw (plain_asks_not xs h, c.asks_not) refl;
 }
 
 -- ---- the parts of the lists

@@ -1,9 +1,11 @@
 -- The requests that the policy keeps as pending are those that the words of the law say.
 use Rattle.std.proofs.Common.{if◌then◌else◌, ◌≡◌, ◌≤◌, ℕ, zero, suc, ◌+◌, ◌==◌, Bool, true, false, not, ◌&&◌, ◌||◌, nat_lt, List, [], ◌∷◌, ◌++◌, inl, inr, Option, Some, None, refl, sym, ap, subst, ◌∙◌, arith, zero-add}
 use Rattle.std.specs.List.{list_all, list_any}
+use Rattle.std.proofs.Math.Bool.{and-false, and-true, or-false}
 use Rattle.std.proofs.lemmas.Bool.{eqb-true}
 use Rattle.std.proofs.lemmas.Bool.Decides.{nat_tests}
-use Rattle.wdf_base.proofs.Tests.{both_left, both_right, both}
+use Rattle.std.proofs.lemmas.List.Folds.{list_any-append}
+use Rattle.wdf_base.proofs.Tests.{both_left, both_right, both, not_true, second}
 use Rattle.wdf_base.specs.declared.event.Event.{Event}
 use Rattle.wdf_model.specs.Tables.{entry, flag, put}
 use Rattle.wdf_model.specs.agents.IdlePolicy.{IdleDevice, count_of, pending_after, with_completion}
@@ -38,16 +40,7 @@ same_so false true h k = k refl
 same_so false false h k = refl
 
 any_last : {T : Type 0} (p : T → Bool) (xs : List T) (y : T) → list_any p (xs ++ y ∷ []) ≡ (list_any p xs || p y)
-any_last p [] y = or_none (p y)
-  where
-    or_none : (b : Bool) → (b || false) ≡ b
-    or_none true = refl
-    or_none false = refl
-any_last p (x ∷ xs) y = rw (any_last p xs y) (nested (p x) (list_any p xs) (p y))
-  where
-    nested : (a b c : Bool) → (a || (b || c)) ≡ ((a || b) || c)
-    nested true b c = refl
-    nested false b c = refl
+any_last p xs y = list_any-append p xs (y ∷ []) ∙ ap (λ b. list_any p xs || b) (or-false (p y))
 
 -- an item that passes
 record Passes {T : Type 0} (p : T → Bool) (xs : List T) : Type 0 where
@@ -57,11 +50,7 @@ record Passes {T : Type 0} (p : T → Bool) (xs : List T) : Type 0 where
 
 passes_by : {T : Type 0} (p : T → Bool) (x : T) (xs : List T) (b : Bool) → p x ≡ b → (list_any p xs ≡ true → Passes p xs) → (b || list_any p xs) ≡ true → Passes p (x ∷ xs)
 passes_by p x xs true e rest h = record { item = x; passes = e; there = λ q k. rw k refl }
-passes_by p x xs false e rest h = let r = rest h in record { item = r.item; passes = r.passes; there = λ q k. later (q x) (list_any q xs) (r.there q k) }
-  where
-    later : (a b : Bool) → b ≡ true → (a || b) ≡ true
-    later true b h = refl
-    later false b h = h
+passes_by p x xs false e rest h = let r = rest h in record { item = r.item; passes = r.passes; there = λ q k. second (q x) (list_any q xs) (r.there q k) }
 
 passing : {T : Type 0} (p : T → Bool) (xs : List T) → list_any p xs ≡ true → Passes p xs
 passing p [] h = absurd (let z : ⊥ = cc in z)
@@ -105,11 +94,7 @@ bit_there (b ∷ bits) h = bit_by b bits (bit_there bits) h
 there_bit : (bits : List Bool) (r : ℕ) → entry false bits r ≡ true → list_any (λ (x : Bool). x) bits ≡ true
 there_bit [] r h = absurd (let z : ⊥ = cc in z)
 there_bit (b ∷ bits) zero h = let is : b ≡ true = h in rw is refl
-there_bit (b ∷ bits) (suc r) h = later b (list_any (λ (x : Bool). x) bits) (there_bit bits r h)
-  where
-    later : (a c : Bool) → c ≡ true → (a || c) ≡ true
-    later true c h = refl
-    later false c h = h
+there_bit (b ∷ bits) (suc r) h = second b (list_any (λ (x : Bool). x) bits) (there_bit bits r h)
 
 -- ---- an event that isn't settled brings a request that pends
 
@@ -121,11 +106,7 @@ record Unsettled (es : List Event) (b : Bool) (o : Option ℕ) : Type 0 where
 
 unsettled_by : (es : List Event) (b : Bool) (o : Option ℕ) → not (not b || is_completed es o) ≡ true → Unsettled es b o
 unsettled_by es true None h = absurd (let z : ⊥ = cc in z)
-unsettled_by es true (Some r) h = record { here = refl; request = r; is = refl; open_ = off (ever (sign.Completion r) es) h }
-  where
-    off : (c : Bool) → not c ≡ true → c ≡ false
-    off true h = absurd (let z : ⊥ = cc in z)
-    off false h = refl
+unsettled_by es true (Some r) h = record { here = refl; request = r; is = refl; open_ = not_true (ever (sign.Completion r) es) h }
 unsettled_by es false o h = absurd (let z : ⊥ = cc in z)
 
 itself : (r : ℕ) → is_id r (Some r) ≡ true
@@ -138,7 +119,7 @@ pends_by d es h =
     let brought : brings d u.request p.item ≡ true = both (is_id d (arrived_at p.item)) (is_id u.request (arrived p.item)) u.here (ap (is_id u.request) u.is ∙ itself u.request) in
     (u.request, both (list_any (brings d u.request) es) (not (ever (sign.Completion u.request) es)) (p.there (brings d u.request) brought) (ap not u.open_))
 
-is_some_id : (r : ℕ) (o : Option ℕ) → is_id r o ≡ true → o ≡ Some r
+pub is_some_id : (r : ℕ) (o : Option ℕ) → is_id r o ≡ true → o ≡ Some r
 is_some_id r None h = absurd (let z : ⊥ = cc in z)
 is_some_id r (Some x) h = ap Some (eqb-true x r h)
 
@@ -154,10 +135,6 @@ fails_by d es r h =
     let p = passing (brings d r) es any in
     p.there (λ e. not (is_settled es d e)) (unsettled_of es d r p.item p.passes (both_right (list_any (brings d r) es) (not (ever (sign.Completion r) es)) h))
 
-off_of : (b : Bool) → not b ≡ true → b ≡ false
-off_of true h = absurd (let z : ⊥ = cc in z)
-off_of false h = refl
-
 falls : (b : Bool) → (b ≡ true → ⊥) → not b ≡ true
 falls true h = absurd (h refl)
 falls false h = refl
@@ -172,7 +149,7 @@ some_pending es x k =
     let p : pends d b.0 es ≡ true = sym (k.entries b.0) ∙ b.1 in
     falls (list_all (is_settled es d) es) (λ all. none_fails (is_settled es d) es all (fails_by d es b.0 p)))
     (λ h.
-    let f = some_fails (is_settled es d) es (off_of (list_all (is_settled es d) es) h) in
+    let f = some_fails (is_settled es d) es (not_true (list_all (is_settled es d) es) h) in
     let p = pends_by d es f in
     there_bit x.pending p.0 (k.entries p.0 ∙ p.1))
 
@@ -210,25 +187,13 @@ module _ (es : List Event) (x : IdleDevice) (k : Pending es x) where
 
   kept_by : (o r : ℕ) (b : Bool) → entry false x.pending o ≡ b → entry false (if b then put false x.pending o false else x.pending) r ≡ (entry false x.pending r && not (o == r))
   kept_by o r true e = elim (one_or_two r o) [
-    | inl same ↦ rw (same, equal o o refl) (entry_put_same false x.pending o false ∙ sym (and_no (entry false x.pending o)))
-    | inr other ↦ rw (not_equal o r (λ y. other (sym y))) (entry_put_other false x.pending o r false other ∙ sym (and_yes (entry false x.pending r)))
+    | inl same ↦ rw (same, equal o o refl) (entry_put_same false x.pending o false ∙ sym (and-false (entry false x.pending o)))
+    | inr other ↦ rw (not_equal o r (λ y. other (sym y))) (entry_put_other false x.pending o r false other ∙ sym (and-true (entry false x.pending r)))
   ]
-    where
-      and_no : (b : Bool) → (b && false) ≡ false
-      and_no true = refl
-      and_no false = refl
-
-      and_yes : (b : Bool) → (b && true) ≡ b
-      and_yes true = refl
-      and_yes false = refl
   kept_by o r false e = elim (one_or_two r o) [
     | inl same ↦ rw (same, e) refl
-    | inr other ↦ rw (not_equal o r (λ y. other (sym y))) (sym (and_yes (entry false x.pending r)))
+    | inr other ↦ rw (not_equal o r (λ y. other (sym y))) (sym (and-true (entry false x.pending r)))
   ]
-    where
-      and_yes : (b : Bool) → (b && true) ≡ b
-      and_yes true = refl
-      and_yes false = refl
 
   fewer_by : (o : ℕ) (b : Bool) → count_of (if b then put false x.pending o false else x.pending) ≤ count_of x.pending
   fewer_by o true =

@@ -1,5 +1,6 @@
 -- What the policy keeps as pending stays what the words say, whatever event comes.
-use Rattle.std.proofs.Common.{if◌then◌else◌, ◌≡◌, ℕ, ◌==◌, Bool, true, false, ◌&&◌, nat_lt, List, Option, Some, None, refl, ap, ◌∙◌}
+use Rattle.std.proofs.Common.{if◌then◌else◌, ◌≡◌, ℕ, ◌==◌, Bool, true, false, nat_lt, List, Option, Some, None, refl, ap, ◌∙◌}
+use Rattle.std.proofs.Math.Bool.{and-false}
 use Rattle.wdf_base.specs.declared.ids.Cpu.{Cpu}
 use Rattle.wdf_base.specs.declared.ids.Handle.{Handle}
 use Rattle.wdf_base.specs.declared.value.Value.{Value}
@@ -66,21 +67,9 @@ module _ (es : List Event) (x : IdleDevice) (k : Pending es x) where
   posts agent (post.Read device n) (Some r) i = arrives_by (event.Posted agent (post.Read device n) (Some r)) device.id.0 r (device.id.0 == d) refl refl refl refl (λ o. refl) (i.arrival agent (post.Read device n) r device.id.0 refl refl)
   posts agent (post.Write device n) (Some r) i = arrives_by (event.Posted agent (post.Write device n) (Some r)) device.id.0 r (device.id.0 == d) refl refl refl refl (λ o. refl) (i.arrival agent (post.Write device n) r device.id.0 refl refl)
   posts agent (post.Control device code n) (Some r) i = arrives_by (event.Posted agent (post.Control device code n) (Some r)) device.id.0 r (device.id.0 == d) refl refl refl refl (λ o. refl) (i.arrival agent (post.Control device code n) r device.id.0 refl refl)
-  posts agent (post.Read device n) None i = quiet es x k (event.Posted agent (post.Read device n) None) 0 refl (λ o. nobody (device.id.0 == d)) (λ o. refl)
-    where
-      nobody : (b : Bool) → (b && false) ≡ false
-      nobody true = refl
-      nobody false = refl
-  posts agent (post.Write device n) None i = quiet es x k (event.Posted agent (post.Write device n) None) 0 refl (λ o. nobody (device.id.0 == d)) (λ o. refl)
-    where
-      nobody : (b : Bool) → (b && false) ≡ false
-      nobody true = refl
-      nobody false = refl
-  posts agent (post.Control device code n) None i = quiet es x k (event.Posted agent (post.Control device code n) None) 0 refl (λ o. nobody (device.id.0 == d)) (λ o. refl)
-    where
-      nobody : (b : Bool) → (b && false) ≡ false
-      nobody true = refl
-      nobody false = refl
+  posts agent (post.Read device n) None i = quiet es x k (event.Posted agent (post.Read device n) None) 0 refl (λ o. and-false (device.id.0 == d)) (λ o. refl)
+  posts agent (post.Write device n) None i = quiet es x k (event.Posted agent (post.Write device n) None) 0 refl (λ o. and-false (device.id.0 == d)) (λ o. refl)
+  posts agent (post.Control device code n) None i = quiet es x k (event.Posted agent (post.Control device code n) None) 0 refl (λ o. and-false (device.id.0 == d)) (λ o. refl)
   posts agent (post.Cancel q) (Some r) i = quiet es x k (event.Posted agent (post.Cancel q) (Some r)) 0 refl (λ o. refl) (λ o. refl)
   posts agent (post.Ask a n) (Some r) i = quiet es x k (event.Posted agent (post.Ask a n) (Some r)) 0 refl (λ o. refl) (λ o. refl)
   posts agent (post.Act a) (Some r) i = quiet es x k (event.Posted agent (post.Act a) (Some r)) 0 refl (λ o. refl) (λ o. refl)

@@ -1,6 +1,5 @@
 -- Agent 0 of a run with the policy is the policy, and knows of each device what the words of the law say.
-use Rattle.std.proofs.Common.{if◌then◌else◌, ◌≡◌, ℕ, zero, suc, ◌+◌, ◌==◌, Bool, true, false, not, ◌&&◌, nat_lt, List, [], ◌∷◌, Option, Some, map, slice_get, refl, sym, ap, ◌∙◌, arith}
-use Rattle.std.proofs.lemmas.Bool.Decides.{nat_tests}
+use Rattle.std.proofs.Common.{if◌then◌else◌, ◌≡◌, ℕ, zero, suc, ◌+◌, Bool, true, false, List, [], ◌∷◌, Option, Some, map, slice_get, refl, sym, ap, ◌∙◌}
 use Rattle.wdf_base.specs.Meaning.{Meaning}
 use Rattle.wdf_base.specs.declared.plan.Plan.{Plan}
 use Rattle.wdf_base.specs.declared.event.Event.{Event}
@@ -10,8 +9,9 @@ use Rattle.wdf_model.specs.State.{State}
 use Rattle.wdf_model.specs.rules.Deeds.{told}
 use Rattle.wdf_model.specs.rules.Steps.{after, deeds}
 use Rattle.wdf_model.specs.agents.App.{App}
-use Rattle.wdf_model.specs.agents.IdlePolicy.{IdleDevice, IdlePolicy, count_of, idle_after, manager_after, policy_after, starts_anew}
+use Rattle.wdf_model.specs.agents.IdlePolicy.{IdlePolicy, policy_after}
 use Rattle.wdf_model.proofs.Counting.{counted_first, counting_commutes}
+use Rattle.wdf_idle.proofs.Concerning.{as_it_was}
 use Rattle.law_idle.specs.Idling.{time_step}
 use Rattle.law_idle.specs.Policies.{HasPolicy}
 
@@ -32,32 +32,6 @@ pub from_mapped : {T U : Type 0} (f : T → U) (xs : List T) (j : ℕ) (y : U) �
 from_mapped f [] j y h = absurd (let z : ⊥ = cc in z)
 from_mapped f (x ∷ xs) zero y h = (x, refl, (let same : f x ≡ y = cc in same))
 from_mapped f (x ∷ xs) (suc j) y h = from_mapped f xs j y h
-
--- ---- a step inside a frame changes nothing
-
-not_both : (b : Bool) → (not b && b) ≡ false
-not_both true = refl
-not_both false = refl
-
-both_not : (b : Bool) → (b && not b) ≡ false
-both_not true = refl
-both_not false = refl
-
-not_none : (n : ℕ) → (nat_lt 0 n && n == 0) ≡ false
-not_none n = grind (arith, nat_tests)
-
-starts_not : (x : IdleDevice) → starts_anew x x ≡ false
-starts_not x = rw (not_both x.awake, both_not x.hold, not_none (count_of x.pending)) refl
-
-unchanged : (now : ℕ) (x : IdleDevice) → record x { since = if starts_anew x x then now else x.since } ≡ x
-unchanged now x = ap (λ b. record x { since = if b then now else x.since }) (starts_not x)
-
-all_same : (f : IdleDevice → IdleDevice) → ((x : IdleDevice) → f x ≡ x) → (xs : List IdleDevice) → map f xs ≡ xs
-all_same f h [] = refl
-all_same f h (x ∷ xs) = rw (h x, all_same f h xs) refl
-
-stays : (p : IdlePolicy) (e : Event) → ((x : IdleDevice) → idle_after p.manager.clock e x ≡ x) → manager_after p e ≡ p.manager → policy_after p e ≡ p
-stays p e h k = rw (all_same (idle_after p.manager.clock e) h p.devices, k) refl
 
 -- ---- agent 0
 
@@ -82,8 +56,8 @@ module _ {A : Type 0} (plan : Plan) (m : Meaning A) (policy : A → Option IdleP
   }
 
   pub policy_goes_on : (e : Event) → IsPolicy policy (after plan m S e) (policy_after p e)
-  policy_goes_on (event.Local cpu line) = untold (event.Local cpu line) refl (stays p (event.Local cpu line) (λ x. unchanged p.manager.clock x) refl)
-  policy_goes_on (event.Log cpu v) = untold (event.Log cpu v) refl (stays p (event.Log cpu v) (λ x. unchanged p.manager.clock x) refl)
+  policy_goes_on (event.Local cpu line) = untold (event.Local cpu line) refl (as_it_was p (event.Local cpu line) refl)
+  policy_goes_on (event.Log cpu v) = untold (event.Log cpu v) refl (as_it_was p (event.Log cpu v) refl)
   policy_goes_on e = heard e refl
 
 -- ---- the manager's clock

@@ -4,7 +4,6 @@ use Rattle.std.proofs.lemmas.Bool.{eqb-true}
 use Rattle.wdf_base.specs.declared.ids.Cpu.{Cpu}
 use Rattle.wdf_base.specs.declared.ids.Handle.{Handle}
 use Rattle.wdf_base.specs.declared.value.Value.{Value}
-use Rattle.wdf_base.specs.declared.value.Value.TheVariants.{Num, Obj, Stat}
 use Rattle.wdf_base.specs.declared.call.Callback.{Callback}
 use Rattle.wdf_base.specs.declared.call.Callback.TheVariants as callback
 use Rattle.wdf_base.specs.declared.event.Ask.{Ask}
@@ -23,7 +22,7 @@ use Rattle.wdf_base.specs.Lives.{is_gone}
 use Rattle.wdf_model.specs.declared.enums.Phase.{Phase}
 use Rattle.wdf_model.specs.declared.enums.Phase.TheVariants.{Working, Sleeping}
 use Rattle.wdf_model.specs.parts.Tree.{life_of, nearest_device}
-use Rattle.wdf_model.specs.parts.Pnp.{Pnp, Sequence, busy, is_running_step, is_success, left_after, left_after_failure, no_sequence, running_step, sequence_of, steps_for, steps_left, taken_step}
+use Rattle.wdf_model.specs.parts.Pnp.{Sequence, busy, is_running_step, is_success, left_after, left_after_failure, no_sequence, sequence_of, steps_for, steps_left, taken_step}
 use Rattle.wdf_model.specs.parts.Pnp as pnp
 use Rattle.wdf_model.specs.State.{State}
 use Rattle.wdf_model.specs.agents.IdlePolicy.{ends_asleep, ends_awake, is_query}
@@ -35,9 +34,11 @@ use Rattle.wdf_laws.specs.Events.{is_success as laws_success}
 use Rattle.law_machine_base.specs.Agreement.{is_sequence}
 use Rattle.law_trace_power.proofs.Happens.{not_running, taken_pass, taken_run}
 use Rattle.law_trace_turns.specs.Turned.{Asked, Begun, Ended, Passed, Still, Turned, is_asking, is_turning}
+use Rattle.law_trace_power.specs.Steps.{is_working}
 use Rattle.law_idle.specs.Idling.{Rest, asleep_step, awake_step, refuses_removal, refuses_stop, rest_after}
-use Rattle.law_idle.specs.Resting.{IsAtRest, Rests, has_query, is_sleeping, is_tidy, is_working, step_if_any, under_way}
+use Rattle.law_idle.specs.Resting.{IsAtRest, Rests, has_query, is_sleeping, is_tidy, step_if_any, under_way}
 use Rattle.law_idle.proofs.Lists.{end_asks_not, end_tidy, lists_tidy, rest_is_last, tail_asks_not, tail_asks_nothing, tail_is_tidy, tidy_tail}
+use Rattle.law_idle.proofs.Steps.{success_same}
 
 -- ---- truth values
 
@@ -122,11 +123,6 @@ begins W Z q c j ss idle left r =
 
 abbrev refused : ℕ → Event → Bool
 refused d e = refuses_stop d e || refuses_removal d e
-
-success_same : (v : Value) → is_success v ≡ laws_success v
-success_same (Num n) = refl
-success_same (Obj o) = refl
-success_same (Stat s) = refl
 
 -- what a refusal is
 record IsRefusal (d : ℕ) (c : Callback) (o : Handle) (v : Value) : Type 0 where

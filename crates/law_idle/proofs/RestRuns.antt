@@ -1,6 +1,7 @@
 -- What the words say of a device's rest is so at each place of every run of a resolved plan.
 use Rattle.std.proofs.Common.{◌≡◌, ℕ, zero, suc, ◌+◌, ◌≤◌, Bool, true, false, List, [], ◌∷◌, ◌++◌, Option, Some, None, length, map, slice_get, take, refl, sym, ap, subst, ◌∙◌, arith}
 use Rattle.std.specs.List.{range_with_len}
+use Rattle.std.proofs.lemmas.Option.{slice_get_past}
 use Rattle.wdf_base.specs.Meaning.{Meaning}
 use Rattle.wdf_base.specs.Resolved.{IsResolved}
 use Rattle.wdf_base.specs.Lives.{is_gone}
@@ -32,14 +33,9 @@ use Rattle.law_idle.proofs.Since.{asleep_more, awake_more}
 
 -- ---- the opening
 
-beyond : (ds : List Declared) (x : ℕ) → length ds ≤ x → slice_get ds x ≡ None
-beyond [] x h = refl
-beyond (d ∷ ds) zero h = absurd (omega arith)
-beyond (d ∷ ds) (suc x) h = beyond ds x (omega arith)
-
 no_device : (plan : Plan) (x : ℕ) → suc (length plan.declared) ≤ x → device_of plan x ≡ None
 no_device plan zero h = absurd (omega arith)
-no_device plan (suc x) h = ap as_device (beyond plan.declared x (omega arith))
+no_device plan (suc x) h = ap as_device (slice_get_past plan.declared x (omega arith))
 
 first_sequence : (plan : Plan) (d : ℕ) → entry no_sequence (map (λ x. opening_sequence plan x (device_of plan x)) (range_with_len 0 (suc (length plan.declared)))) d ≡ opening_sequence plan d (device_of plan d)
 first_sequence plan d =

@@ -1,6 +1,7 @@
 -- The words of the law, after one event more.
 use Rattle.std.proofs.Common.{if◌then◌else◌, ℕ, zero, suc, ◌≡◌, ◌≤◌, List, [], ◌∷◌, ◌++◌, length, take, refl, ap, sym, ◌∙◌, arith, length-append}
 use Rattle.std.proofs.lemmas.Grind.{fold-append}
+use Rattle.std.proofs.lemmas.List.{take_all, take-append-le}
 use Rattle.wdf_base.specs.declared.plan.Plan.{Plan}
 use Rattle.wdf_base.specs.declared.event.Event.{Event}
 use Rattle.law_idle.specs.Idling.{asleep_rest, asleep_step, awake_rest, awake_step, hold_register, hold_step, is_held, since, since_of_first, starts_anew, time_after, time_step}
@@ -23,28 +24,19 @@ held_more plan d es e = fold-append (hold_step (hold_register plan d)) _ es (e �
 
 -- ---- the first events of more
 
-front : {T : Type 0} (xs ys : List T) (k : ℕ) → k ≤ length xs → take k (xs ++ ys) ≡ take k xs
-front xs ys zero h = refl
-front [] ys (suc k) h = absurd (omega arith)
-front (x ∷ xs) ys (suc k) h = ap (λ zs. x ∷ zs) (front xs ys k (omega arith))
-
 whole : {T : Type 0} (xs ys : List T) → take (length xs) (xs ++ ys) ≡ xs
 whole [] ys = refl
 whole (x ∷ xs) ys = ap (λ zs. x ∷ zs) (whole xs ys)
 
-all_of : {T : Type 0} (xs : List T) → take (length xs) xs ≡ xs
-all_of [] = refl
-all_of (x ∷ xs) = ap (λ zs. x ∷ zs) (all_of xs)
-
 since_front : (plan : Plan) (d : ℕ) (es more : List Event) (k : ℕ) → k ≤ length es → since_of_first plan d (es ++ more) k ≡ since_of_first plan d es k
 since_front plan d es more zero h = refl
 since_front plan d es more (suc k) h =
-    rw (front es more k (omega arith), front es more (suc k) h, since_front plan d es more k (omega arith)) refl
+    rw (take-append-le k es more (omega arith), take-append-le (suc k) es more h, since_front plan d es more k (omega arith)) refl
 
 pub since_more : (plan : Plan) (d : ℕ) (es : List Event) (e : Event)
     → since plan d (es ++ e ∷ []) ≡ (if starts_anew plan d es (es ++ e ∷ []) then time_after es else since plan d es)
 since_more plan d es e =
     let long : length (es ++ e ∷ []) ≡ suc (length es) = omega (arith, length-append es (e ∷ [])) in
-    let last : take (suc (length es)) (es ++ e ∷ []) ≡ es ++ e ∷ [] = ap (λ n. take n (es ++ e ∷ [])) (sym long) ∙ all_of (es ++ e ∷ []) in
+    let last : take (suc (length es)) (es ++ e ∷ []) ≡ es ++ e ∷ [] = ap (λ n. take n (es ++ e ∷ [])) (sym long) ∙ take_all (length (es ++ e ∷ [])) (es ++ e ∷ []) (omega arith) in
     ap (since_of_first plan d (es ++ e ∷ [])) long
     ∙ rw (whole es (e ∷ []), last, since_front plan d es (e ∷ []) (length es) (omega arith)) refl

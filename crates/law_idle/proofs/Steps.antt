@@ -1,5 +1,6 @@
 -- What the policy knows of a device changes with an event as the words of the law do.
-use Rattle.std.proofs.Common.{if◌then◌else◌, ℕ, ◌≡◌, ◌==◌, Bool, true, false, not, ◌&&◌, ◌||◌, Option, Some, None, is_some, refl}
+use Rattle.std.proofs.Common.{if◌then◌else◌, ℕ, ◌≡◌, ◌==◌, Bool, true, false, not, ◌&&◌, ◌||◌, Option, Some, None, is_some, refl, sym}
+use Rattle.std.proofs.Math.Bool.{or-false}
 use Rattle.wdf_base.specs.declared.ids.Cpu.{Cpu}
 use Rattle.wdf_base.specs.declared.ids.Handle.{Handle}
 use Rattle.wdf_base.specs.declared.value.Value.{Value}
@@ -38,16 +39,8 @@ stays false true = refl
 stays false false = refl
 
 goes : (ends : Ask → Bool) (a w b : Bool) (x : Ask) → (a && not (b && ends x)) ≡ ((false || (a && not (is_ended ends (if b then Some x else None)))) || (w && false))
-goes ends a true true x = or_no (a && not (ends x))
-  where
-    or_no : (c : Bool) → c ≡ (c || false)
-    or_no true = refl
-    or_no false = refl
-goes ends a false true x = or_no (a && not (ends x))
-  where
-    or_no : (c : Bool) → c ≡ (c || false)
-    or_no true = refl
-    or_no false = refl
+goes ends a true true x = sym (or-false (a && not (ends x)))
+goes ends a false true x = sym (or-false (a && not (ends x)))
 goes ends true w false x = refl
 goes ends false true false x = refl
 goes ends false false false x = refl
@@ -56,7 +49,7 @@ was : (a w b : Bool) (x : Ask) → (if b then a else w) ≡ (if is_some (if b th
 was a w true x = refl
 was a w false x = refl
 
-success_same : (v : Value) → is_success v ≡ laws_success v
+pub success_same : (v : Value) → is_success v ≡ laws_success v
 success_same (Num n) = refl
 success_same (Obj o) = refl
 success_same (Stat s) = refl

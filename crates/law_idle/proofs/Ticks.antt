@@ -1,7 +1,7 @@
 -- When time passes, the policy has nothing due for a device.
 use Rattle.std.proofs.Common.{if◌then◌else◌, ◌≡◌, ◌<◌, ℕ, zero, suc, ◌+◌, Bool, true, false, not, ◌&&◌, nat_lt, nat_le, List, [], ◌∷◌, ◌⊎◌, inl, inr, Option, Some, None, filter, length, slice_get, take, option_and_then, refl, sym, ap, subst, ◌∙◌, arith}
 use Rattle.std.specs.List.{filter_map}
-use Rattle.wdf_base.proofs.Tests.{both_left, both_right}
+use Rattle.wdf_base.proofs.Tests.{all_three, both_left, both_right}
 use Rattle.wdf_base.specs.Meaning.{Meaning}
 use Rattle.wdf_base.specs.Resolved.{IsResolved, is_handle}
 use Rattle.wdf_base.specs.declared.plan.Plan.{Plan}
@@ -97,9 +97,6 @@ at_rest_free phase Q d k = rw (k.running, k.left) refl
 device_handle : (plan : Plan) (h : Handle) (info : DeviceInfo) → device_of plan h.id.0 ≡ Some info → h.name ≡ info.name → is_handle plan kind.Device h ≡ true
 device_handle plan h info at name = rw (device_is_declared plan h.id.0 info at) (equal info.name h.name (sym name))
 
-three : (a b c : Bool) → a ≡ true → b ≡ true → c ≡ true → (a && b && c) ≡ true
-three a b c h k l = rw (h, k, l) refl
-
 there : {T : Type 0} (xs : List T) (x : T) → slice_get xs 0 ≡ Some x → 0 < length xs
 there [] x h = absurd (let z : ⊥ = cc in z)
 there (y ∷ ys) x h = omega arith
@@ -133,7 +130,7 @@ module _ {A : Type 0} (plan : Plan) (m : Meaning A) (policy : A → Option IdleP
       let free : busy S.pnp f.device.device.id.0 ≡ false = rested f.device w k.now.manager.clock q d in
       let fits : post_fits plan S 0 q ≡ true = ap (post_fits plan S 0) d.is ∙ rw (device_handle plan f.device.device w.info w.declared w.name, free) refl in
       let answer : same_option same_handle (post_answer plan S 0 q) None ≡ true = ap (λ y. same_option same_handle (post_answer plan S 0 y) None) d.is in
-      three (same_option same_post (due_of m S 0) (Some q)) (post_fits plan S 0 q) (same_option same_handle (post_answer plan S 0 q) None) (rw due same) fits answer
+      all_three (same_option same_post (due_of m S 0) (Some q)) (post_fits plan S 0 q) (same_option same_handle (post_answer plan S 0 q) None) (rw due same) fits answer
 
   offered : (q : Post) → first_post k.now ≡ Some q → Has (event.Posted 0 q None) (candidates plan m S)
   offered q h =

@@ -6,15 +6,11 @@ use Rattle.wdf_base.specs.declared.event.Stage.TheVariants as stage
 use Rattle.wdf_base.specs.declared.event.Step.{Step}
 use Rattle.wdf_base.specs.declared.event.Step.TheVariants as step
 use Rattle.wdf_model.specs.declared.enums.Phase.{Phase}
-use Rattle.wdf_model.specs.declared.enums.Phase.TheVariants.{Working, Sleeping}
+use Rattle.wdf_model.specs.declared.enums.Phase.TheVariants.{Sleeping}
 use Rattle.wdf_model.specs.parts.Pnp.{Sequence}
 use Rattle.wdf_model.specs.agents.IdlePolicy.{is_query}
+use Rattle.law_trace_power.specs.Steps.{is_working}
 use Rattle.law_idle.specs.Idling.{Rest}
-
--- own: the phase of a device that works
-abbrev pub is_working : Phase → Bool
-is_working Working = true
-is_working _ = false
 
 -- own: the phase of a device that sleeps
 abbrev pub is_sleeping : Phase → Bool

@@ -31,12 +31,12 @@ use Rattle.wdf_model.specs.agents.Connector.{Connector, arrival_own, arrival_pos
 use Rattle.wdf_model.specs.agents.LowerTarget.{handle_in_arg}
 use Rattle.wdf_model.specs.agents.StackAgent as stack
 use Rattle.wdf_model.specs.agents.StackAgent.{StackAgent}
-use Rattle.wdf_model.proofs.Counts.{equal, one_or_two}
+use Rattle.wdf_model.proofs.Counts.{count_behind, count_cons, equal, one_or_two}
 use Rattle.wdf_model.proofs.Tests.{both_left, both_right}
 use Rattle.law_machine_base.specs.OverRuns.{PlacesAgree}
 use Rattle.law_stack.specs.Words.{Passing, connector_of, is_connector_arrival, passing_step, passings}
 use Rattle.law_stack.proofs.Alike.{alike_long}
-use Rattle.law_stack.proofs.Counting.{count_joined, count_next, no_longer}
+use Rattle.law_stack.proofs.Counting.{no_longer}
 use Rattle.law_stack.proofs.Held.{IsThere, at_one_target, sends_of, sent_there, takes, there_next, there_ticks}
 use Rattle.law_stack.proofs.Steps.{Agrees, complete_agrees, did_agrees, passings_next, post_agrees, quiet_agrees, stays_after, waiting_agrees}
 use Rattle.law_stack.proofs.Targets.{its_target, one_agent}
@@ -222,8 +222,8 @@ module _ {A : Type 0} (plan : Plan) (m : Meaning A) (es : List Event) (S : State
       let t = sym stays.target in
       let next : passing_step c.target k ps e ≡ passings c.target k (es ++ e ∷ []) = sym (passings_next c.target k es e) in
       let at_c : passing_step c.target k ps e ≡ passings (connector_after c e).target k (es ++ e ∷ []) = next ∙ ap (λ x. passings x k (es ++ e ∷ [])) t in
-      let more = count_joined (is_connector_arrival plan) es (e ∷ []) in
-      let one = count_next (is_connector_arrival plan) e [] in
+      let more = count_behind (is_connector_arrival plan) es (e ∷ []) in
+      let one = count_cons (is_connector_arrival plan) e [] in
       let room = room_next c e in
       let counted : flag (takes_room c.first e) ≡ flag (is_connector_arrival plan e) = ap flag (counted_room plan c.first e h.first) in
       let before = h.room in

@@ -1,5 +1,5 @@
 -- A list is no longer than another where each key is at most as often in it.
-use Rattle.std.proofs.Common.{if◌then◌else◌, ◌≡◌, ◌≢◌, ℕ, suc, ◌+◌, ◌-◌, ◌==◌, ◌≤◌, Bool, true, false, ◌&&◌, List, [], ◌∷◌, ◌++◌, ◌⊎◌, inl, inr, count_by, length, refl, sym, ap, ◌∙◌, arith}
+use Rattle.std.proofs.Common.{if◌then◌else◌, ◌≡◌, ◌≢◌, ℕ, suc, ◌-◌, ◌==◌, ◌≤◌, Bool, true, false, ◌&&◌, List, [], ◌∷◌, ◌⊎◌, inl, inr, count_by, length, refl, sym, ap, ◌∙◌, arith}
 use Rattle.std.proofs.lemmas.Bool.{eqb-true}
 use Rattle.wdf_model.specs.Tables.{flag}
 use Rattle.wdf_model.proofs.Counts.{count_cons, equal, not_equal, one_or_two}
@@ -7,15 +7,6 @@ use Rattle.wdf_model.proofs.Counts.{count_cons, equal, not_equal, one_or_two}
 -- how often a key is in a list
 abbrev pub times_of : {T : Type 0} → (T → ℕ) → ℕ → List T → ℕ
 times_of key k xs = count_by (λ x. key x == k) xs
-
-pub count_next : {T : Type 0} (p : T → Bool) (x : T) (xs : List T) → count_by p (x ∷ xs) ≡ flag (p x) + count_by p xs
-count_next p x xs = count_cons p x xs
-
-pub count_joined : {T : Type 0} (p : T → Bool) (xs ys : List T) → count_by p (xs ++ ys) ≡ count_by p xs + count_by p ys
-count_joined p [] ys = omega arith
-count_joined p (x ∷ xs) ys =
-    count_next p x (xs ++ ys)
-    ∙ (let rest = count_joined p xs ys in let this = count_next p x xs in omega arith)
 
 -- without the first item of a key
 less : {T : Type 0} → (T → ℕ) → ℕ → List T → List T
@@ -53,11 +44,11 @@ module _ {T : Type 0} (key : T → ℕ) (k : ℕ) where
   others_by j n x xs true e h =
       let same : key x ≡ k = eqb-true (key x) k e in
       let off : flag (key x == j) ≡ 0 = ap flag (not_equal (key x) j (λ f. n (sym f ∙ same))) in
-      let next = count_next (λ y. key y == j) x xs in
+      let next = count_cons (λ y. key y == j) x xs in
       ap (times_of key j) (less_here x xs e) ∙ omega (arith, off, next)
   others_by j n x xs false e h =
-      let next = count_next (λ y. key y == j) x xs in
-      let next_too = count_next (λ y. key y == j) x (less key k xs) in
+      let next = count_cons (λ y. key y == j) x xs in
+      let next_too = count_cons (λ y. key y == j) x (less key k xs) in
       ap (times_of key j) (less_there x xs e) ∙ omega (arith, next, next_too, h)
 
   others : (j : ℕ) → j ≢ k → (xs : List T) → times_of key j (less key k xs) ≡ times_of key j xs
@@ -67,12 +58,12 @@ module _ {T : Type 0} (key : T → ℕ) (k : ℕ) where
   one_by : (x : T) (xs : List T) (b : Bool) → (key x == k) ≡ b → times_of key k (less key k xs) ≡ times_of key k xs - 1 → times_of key k (less key k (x ∷ xs)) ≡ times_of key k (x ∷ xs) - 1
   one_by x xs true e h =
       let on : flag (key x == k) ≡ 1 = ap flag e in
-      let next = count_next (λ y. key y == k) x xs in
+      let next = count_cons (λ y. key y == k) x xs in
       ap (times_of key k) (less_here x xs e) ∙ omega (arith, on, next)
   one_by x xs false e h =
       let off : flag (key x == k) ≡ 0 = ap flag e in
-      let next = count_next (λ y. key y == k) x xs in
-      let next_too = count_next (λ y. key y == k) x (less key k xs) in
+      let next = count_cons (λ y. key y == k) x xs in
+      let next_too = count_cons (λ y. key y == k) x (less key k xs) in
       ap (times_of key k) (less_there x xs e) ∙ omega (arith, off, next, next_too, h)
 
   one : (xs : List T) → times_of key k (less key k xs) ≡ times_of key k xs - 1
@@ -90,13 +81,13 @@ module _ {S T : Type 0} (f : S → ℕ) (g : T → ℕ) (p : T → Bool) where
   here_by y ys xs true e h =
       let is : (g y == g y && p y) ≡ true = rw (equal (g y) (g y) refl, e) refl in
       let counted : flag (g y == g y && p y) ≡ 1 = ap flag is in
-      let next = count_next (λ z. g z == g y && p z) y ys in
+      let next = count_cons (λ z. g z == g y && p z) y ys in
       let one_less = one f (g y) xs in
       omega (arith, counted, next, one_less, h)
   here_by y ys xs false e h =
       let is : (g y == g y && p y) ≡ false = rw (equal (g y) (g y) refl, e) refl in
       let counted : flag (g y == g y && p y) ≡ 0 = ap flag is in
-      let next = count_next (λ z. g z == g y && p z) y ys in
+      let next = count_cons (λ z. g z == g y && p z) y ys in
       let one_less = one f (g y) xs in
       omega (arith, counted, next, one_less, h)
 
@@ -104,7 +95,7 @@ module _ {S T : Type 0} (f : S → ℕ) (g : T → ℕ) (p : T → Bool) where
   elsewhere y ys xs k n h =
       let off : (g y == k && p y) ≡ false = rw (not_equal (g y) k (λ e. n (sym e))) refl in
       let counted : flag (g y == k && p y) ≡ 0 = ap flag off in
-      let next = count_next (λ z. g z == k && p z) y ys in
+      let next = count_cons (λ z. g z == k && p z) y ys in
       let same = others f (g y) k n xs in
       omega (arith, counted, next, same, h)
 
@@ -115,7 +106,7 @@ module _ {S T : Type 0} (f : S → ℕ) (g : T → ℕ) (p : T → Bool) where
   pub no_longer : (ys : List T) (xs : List S) → AtMost xs ys → length xs ≤ length ys
   no_longer [] [] h = omega arith
   no_longer [] (x ∷ xs) h =
-      absurd (let this = h (f x) in let next = count_next (λ z. f z == f x) x xs in let is : flag (f x == f x) ≡ 1 = ap flag (equal (f x) (f x) refl) in omega (arith, this, next, is))
+      absurd (let this = h (f x) in let next = count_cons (λ z. f z == f x) x xs in let is : flag (f x == f x) ≡ 1 = ap flag (equal (f x) (f x) refl) in omega (arith, this, next, is))
   no_longer (y ∷ ys) xs h =
       let rest = no_longer ys (less f (g y) xs) (λ k. fewer_by y ys xs h k (one_or_two k (g y))) in
       let by_one = shorter f (g y) xs in

@@ -8,7 +8,7 @@ use Rattle.wdf_base.specs.declared.event.Ask.{Ask}
 use Rattle.wdf_model.specs.declared.stack.StackDevice.{StackDevice}
 use Rattle.wdf_model.specs.Tables.{flag}
 use Rattle.wdf_model.specs.agents.StackManager.{first_in, leader}
-use Rattle.law_stack.proofs.Counting.{count_next}
+use Rattle.wdf_model.proofs.Counts.{count_cons}
 
 -- ---- how many have yet to come
 
@@ -26,8 +26,8 @@ under d xs = count_by (λ x. nat_lt x d) xs
 fewer : (p q : ℕ → Bool) → ((x : ℕ) → p x ≡ true → q x ≡ true) → (xs : List ℕ) → count_by p xs ≤ count_by q xs
 fewer p q f [] = omega arith
 fewer p q f (x ∷ xs) =
-    let one = count_next p x xs in
-    let two = count_next q x xs in
+    let one = count_cons p x xs in
+    let two = count_cons q x xs in
     let this = flag_at_most (p x) (q x) (f x) in
     let rest = fewer p q f xs in
     omega (arith, one, two, this, rest)
@@ -38,13 +38,13 @@ module _ (p q : ℕ → Bool) (f : (x : ℕ) → p x ≡ true → q x ≡ true) 
       let same : x ≡ e = eqb-true x e is in
       let none : flag (p x) ≡ 0 = ap (λ y. flag (p y)) same ∙ ap flag off in
       let some : flag (q x) ≡ 1 = ap (λ y. flag (q y)) same ∙ ap flag on in
-      let one = count_next p x xs in
-      let two = count_next q x xs in
+      let one = count_cons p x xs in
+      let two = count_cons q x xs in
       let others = fewer p q f xs in
       omega (arith, none, some, one, two, others)
   fewer_by x xs false is rest h =
-      let one = count_next p x xs in
-      let two = count_next q x xs in
+      let one = count_cons p x xs in
+      let two = count_cons q x xs in
       let this = flag_at_most (p x) (q x) (f x) in
       let others = rest h in
       omega (arith, one, two, this, others)

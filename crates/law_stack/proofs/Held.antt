@@ -43,7 +43,7 @@ use Rattle.wdf_model.specs.rules.Starts.{new_frame, next_number, start_effect}
 use Rattle.wdf_model.specs.Plans.{callback_irql}
 use Rattle.wdf_model.specs.parts.Locks.{lock_of_callback}
 use Rattle.wdf_model.specs.rules.Steps.{after, deeds, may}
-use Rattle.wdf_model.proofs.Counts.{count_mapped, filter_less, found_at_its_target, not_equal, one_or_two}
+use Rattle.wdf_model.proofs.Counts.{count_behind, count_cons, count_mapped, filter_less, found_at_its_target, not_equal, one_or_two}
 use Rattle.wdf_model.proofs.Sames.{value_same}
 use Rattle.wdf_model.proofs.Tests.{both_left, both_right}
 use Rattle.law_machine_base.specs.OverRuns.{PlacesAgree}
@@ -55,7 +55,7 @@ use Rattle.law_trace_requests.proofs.FirstParts.{did_after, start_reads}
 use Rattle.wdf_laws.specs.Events.{argument_object, id_in}
 use Rattle.law_stack.specs.Words as Words
 use Rattle.law_stack.specs.Words.{Passing, cancelled_if, has_no_arrival, passing_step, sent_now, with_arrival, with_cancel, with_send, without_done}
-use Rattle.law_stack.proofs.Counting.{count_joined, count_next, times_of}
+use Rattle.law_stack.proofs.Counting.{times_of}
 use Rattle.law_stack.proofs.Undone.{all_calm, back_others, done_others, is_calm, sent_more, undone, waits_at}
 
 -- how often a request is among the Sends
@@ -73,12 +73,12 @@ cancel_keeps named r ps = count_mapped (λ (p : Passing). p.request == r) (cance
 
 arrival_keeps_by : (answer : Option ℕ) (r : ℕ) (p : Passing) (ps : List Passing) (b : Bool) → has_no_arrival p ≡ b → sends_of r (with_arrival answer ps) ≡ sends_of r ps → sends_of r (with_arrival answer (p ∷ ps)) ≡ sends_of r (p ∷ ps)
 arrival_keeps_by answer r p ps true e rest =
-    let a = count_next (λ (q : Passing). q.request == r) (record p { arrival = Some answer }) ps in
-    let b = count_next (λ (q : Passing). q.request == r) p ps in
+    let a = count_cons (λ (q : Passing). q.request == r) (record p { arrival = Some answer }) ps in
+    let b = count_cons (λ (q : Passing). q.request == r) p ps in
     rw e (omega (arith, a, b))
 arrival_keeps_by answer r p ps false e rest =
-    let a = count_next (λ (q : Passing). q.request == r) p (with_arrival answer ps) in
-    let b = count_next (λ (q : Passing). q.request == r) p ps in
+    let a = count_cons (λ (q : Passing). q.request == r) p (with_arrival answer ps) in
+    let b = count_cons (λ (q : Passing). q.request == r) p ps in
     rw e (omega (arith, a, b, rest))
 
 arrival_keeps : (answer : Option ℕ) (r : ℕ) (ps : List Passing) → sends_of r (with_arrival answer ps) ≡ sends_of r ps
@@ -92,15 +92,15 @@ at_most_one false = omega arith
 send_adds : (o : Option ℕ) (r : ℕ) (ps : List Passing) → sends_of r (with_send o ps) ≤ sends_of r ps + flag (is_some o)
 send_adds None r ps = omega arith
 send_adds (Some x) r ps =
-    let a = count_joined (λ (q : Passing). q.request == r) ps (sent_now x ∷ []) in
-    let b = count_next (λ (q : Passing). q.request == r) (sent_now x) [] in
+    let a = count_behind (λ (q : Passing). q.request == r) ps (sent_now x ∷ []) in
+    let b = count_cons (λ (q : Passing). q.request == r) (sent_now x) [] in
     let f : flag (x == r) ≤ 1 = at_most_one (x == r) in
     omega (arith, a, b, f)
 
 send_others : (x r : ℕ) (ps : List Passing) → r ≢ x → sends_of r (with_send (Some x) ps) ≡ sends_of r ps
 send_others x r ps n =
-    let a = count_joined (λ (q : Passing). q.request == r) ps (sent_now x ∷ []) in
-    let b = count_next (λ (q : Passing). q.request == r) (sent_now x) [] in
+    let a = count_behind (λ (q : Passing). q.request == r) ps (sent_now x ∷ []) in
+    let b = count_cons (λ (q : Passing). q.request == r) (sent_now x) [] in
     let f : flag (x == r) ≡ 0 = ap flag (not_equal x r (λ e. n (sym e))) in
     omega (arith, a, b, f)
 
@@ -111,7 +111,7 @@ done_ends r (p ∷ ps) = by_test (p.request == r) refl (done_ends r ps)
     by_test : (b : Bool) → (p.request == r) ≡ b → sends_of r (without_done r ps) ≡ 0 → sends_of r (without_done r (p ∷ ps)) ≡ 0
     by_test true e rest = rw e rest
     by_test false e rest =
-        let a = count_next (λ (q : Passing). q.request == r) p (without_done r ps) in
+        let a = count_cons (λ (q : Passing). q.request == r) p (without_done r ps) in
         let f : flag (p.request == r) ≡ 0 = ap flag e in
         rw e (omega (arith, a, f, rest))
 
@@ -130,10 +130,10 @@ small false = omega arith
 
 waits_fewer_by : (r : ℕ) (s : Sending) (xs : List Sending) (b : Bool) → (s.request.0 == r) ≡ b → count_by (waits_at r) xs ≤ count_by (λ s. s.request.0 == r) xs → count_by (waits_at r) (s ∷ xs) ≤ count_by (λ s. s.request.0 == r) (s ∷ xs)
 waits_fewer_by r s xs true e rest =
-    let a = count_next (waits_at r) s xs in let b = count_next (λ (s : Sending). s.request.0 == r) s xs in
+    let a = count_cons (waits_at r) s xs in let b = count_cons (λ (s : Sending). s.request.0 == r) s xs in
     let f : flag (s.request.0 == r) ≡ 1 = ap flag e in let g : flag (waits_at r s) ≤ 1 = small (waits_at r s) in omega (arith, a, b, f, g, rest)
 waits_fewer_by r s xs false e rest =
-    let a = count_next (waits_at r) s xs in let b = count_next (λ (s : Sending). s.request.0 == r) s xs in
+    let a = count_cons (waits_at r) s xs in let b = count_cons (λ (s : Sending). s.request.0 == r) s xs in
     let f : flag (s.request.0 == r) ≡ 0 = ap flag e in let g : flag (waits_at r s) ≡ 0 = ap flag (ap (λ c. c && is_at_target s.outcome) e) in omega (arith, a, b, f, g, rest)
 
 waits_fewer : (r : ℕ) (xs : List Sending) → count_by (waits_at r) xs ≤ count_by (λ s. s.request.0 == r) xs
@@ -155,11 +155,11 @@ found_waits_by r s xs true e once waits rest = rw e (not_done (is_at_target s.ou
     not_done true h = no_outcome s.outcome h s.forgotten
     not_done false h =
         absurd
-        (let a = count_next (waits_at r) s xs in let b = count_next (λ (s : Sending). s.request.0 == r) s xs in
+        (let a = count_cons (waits_at r) s xs in let b = count_cons (λ (s : Sending). s.request.0 == r) s xs in
         let f : flag (s.request.0 == r) ≡ 1 = ap flag e in let g : flag (waits_at r s) ≡ 0 = ap flag (ap (λ c. c && is_at_target s.outcome) e ∙ h) in
         let l = waits_fewer r xs in omega (arith, a, b, f, g, l, once, waits))
 found_waits_by r s xs false e once waits rest =
-    let a = count_next (waits_at r) s xs in let b = count_next (λ (s : Sending). s.request.0 == r) s xs in
+    let a = count_cons (waits_at r) s xs in let b = count_cons (λ (s : Sending). s.request.0 == r) s xs in
     let f : flag (s.request.0 == r) ≡ 0 = ap flag e in let g : flag (waits_at r s) ≡ 0 = ap flag (ap (λ c. c && is_at_target s.outcome) e) in
     rw e (rest (omega (arith, b, f, once)) (omega (arith, a, g, waits)))
 

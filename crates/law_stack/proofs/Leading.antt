@@ -26,7 +26,7 @@ use Rattle.wdf_model.specs.parts.Pnp.{Pnp, Sequence, busy, is_success, left_afte
 use Rattle.wdf_model.specs.parts.Pnp as pnp
 use Rattle.wdf_model.specs.agents.StackManager.{StackManager, asked, awaited_drops, awaits, came_to, changes_nothing, drops, ended, follower, goes_up, is_alone, is_query, is_working, manager_posted, phase_in, phase_of_stage, post_after, query_ended, stack_manager_after, unless_dropped, with_post}
 use Rattle.wdf_model.proofs.Counts.{equal, one_or_two}
-use Rattle.wdf_model.proofs.Tests.{both_left, both_right, itself}
+use Rattle.wdf_model.proofs.Tests.{both_left, both_right, itself, not_false}
 use Rattle.law_machine_base.specs.Agreement.{is_sequence}
 use Rattle.law_trace_turns.specs.Turned.{is_turning}
 use Rattle.law_stack.specs.Laws.{asked_in_order}
@@ -66,11 +66,7 @@ module _ (o : Option AskPost) (x : AskPost) where
 
 -- a start or a wake that isn't dropped has left its device Working
 up_works : (a : Ask) (p : Phase) (up : Bool) → goes_up a ≡ up → drops a p ≡ false → up ≡ true → is_working p ≡ true
-up_works a p true e h is = not_false_here (is_working p) (sym (ap (λ b. b && not (is_working p)) e) ∙ h)
-  where
-    not_false_here : (b : Bool) → not b ≡ false → b ≡ true
-    not_false_here true h = refl
-    not_false_here false h = absurd (let z : ⊥ = cc in z)
+up_works a p true e h is = not_false (is_working p) (sym (ap (λ b. b && not (is_working p)) e) ∙ h)
 up_works a p false e h is = absurd (let z : ⊥ = cc in z)
 
 come_by : (plan : Plan) (es : List Event) (d : ℕ) (w up : Bool) → w ≡ works plan d es → (up ≡ true → w ≡ true) → (up ≡ false → w ≡ false) → (if up then works plan d es else not (works plan d es)) ≡ true

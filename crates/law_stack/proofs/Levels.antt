@@ -12,6 +12,7 @@ use Rattle.wdf_base.specs.declared.event.Event.{Event}
 use Rattle.wdf_base.specs.declared.event.Event.TheVariants as event
 use Rattle.wdf_model.specs.rules.Ready.{IsRunOf}
 use Rattle.wdf_model.proofs.Tests.{both_left, both_right, itself}
+use Rattle.wdf_model.proofs.Counts.{count_behind}
 use Rattle.law_machine_base.specs.OverRuns.{completes}
 use Rattle.law_machine_base.proofs.LawsOverRuns.{completed_once}
 use Rattle.wdf_laws.specs.declared.sign.Sign.TheVariants as sign
@@ -23,15 +24,11 @@ use Rattle.law_trace_once.proofs.Completions.{completion_completes}
 use Rattle.law_trace_once.proofs.Words.{any_weaker, ever_is, found_counts}
 use Rattle.law_trace_families.proofs.Drained.{law_1_at_each}
 use Rattle.law_stack.specs.Descents.{GoesDown, arrives_at}
-use Rattle.law_stack.proofs.Counting.{count_joined}
 
-all_at_by : {T : Type 0} (p : T → Bool) (x : T) (xs : List T) (k : ℕ) (y : T) → list_all p (x ∷ xs) ≡ true → ((j : ℕ) → slice_get xs j ≡ Some y → p y ≡ true) → slice_get (x ∷ xs) k ≡ Some y → p y ≡ true
-all_at_by p x xs zero y h rest at = let same : x ≡ y = cc in ap p (sym same) ∙ both_left (p x) (list_all p xs) h
-all_at_by p x xs (suc k) y h rest at = rest k at
-
-all_at : {T : Type 0} (p : T → Bool) (xs : List T) (k : ℕ) (y : T) → list_all p xs ≡ true → slice_get xs k ≡ Some y → p y ≡ true
+pub all_at : {T : Type 0} (p : T → Bool) (xs : List T) (k : ℕ) (y : T) → list_all p xs ≡ true → slice_get xs k ≡ Some y → p y ≡ true
 all_at p [] k y h at = absurd (let z : ⊥ = cc in z)
-all_at p (x ∷ xs) k y h at = all_at_by p x xs k y h (λ j e. all_at p xs j y (both_right (p x) (list_all p xs) h) e) at
+all_at p (x ∷ xs) zero y h at = let same : x ≡ y = cc in ap p (sym same) ∙ both_left (p x) (list_all p xs) h
+all_at p (x ∷ xs) (suc k) y h at = all_at p xs k y (both_right (p x) (list_all p xs) h) at
 
 at_front : {T : Type 0} (xs : List T) (n k : ℕ) (x : T) → k < n → slice_get xs k ≡ Some x → slice_get (take n xs) k ≡ Some x
 at_front xs zero k x l h = absurd (omega (arith, l))
@@ -41,7 +38,7 @@ at_front (y ∷ ys) (suc n) (suc k) x l h = at_front ys n k x (omega (arith, l))
 
 front_counts : {T : Type 0} (p : T → Bool) (xs : List T) (n : ℕ) → count_by p (take n xs) ≤ count_by p xs
 front_counts p xs n =
-    let joined = count_joined p (take n xs) (drop n xs) in
+    let joined = count_behind p (take n xs) (drop n xs) in
     let whole : count_by p (take n xs ++ drop n xs) ≡ count_by p xs = ap (count_by p) (take-append-drop n xs) in
     omega (arith, joined, whole)
 

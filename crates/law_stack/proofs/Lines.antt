@@ -13,15 +13,11 @@ use Rattle.wdf_model.specs.Tables.{same_id}
 use Rattle.wdf_model.specs.Plans.{devices_of}
 use Rattle.wdf_model.specs.agents.Chains.{above, below, device_handle, device_named_by, if_above, named_device, names_device, naming_target}
 use Rattle.wdf_model.specs.agents.StackManager.{above_in, below_in, first_in, goes_up, is_alone, leader}
-use Rattle.wdf_model.proofs.Tests.{itself}
+use Rattle.wdf_model.proofs.Tests.{itself, second}
 use Rattle.law_stack.proofs.Chains.{Knows, above_has_below, is_declared}
 use Rattle.law_stack.proofs.Firsts.{Nears, comes_to_first, over, over_less, under, under_less}
 
 -- ---- each device of a chain is declared
-
-second_true : (a b : Bool) → b ≡ true → (a || b) ≡ true
-second_true true b h = refl
-second_true false b h = h
 
 found_by : (p : ℕ → Bool) (x : ℕ) (xs : List ℕ) (y : ℕ) (b : Bool) → p x ≡ b → (find p xs ≡ Some y → list_any (λ z. z == y) xs ≡ true) → find p (x ∷ xs) ≡ Some y → list_any (λ z. z == y) (x ∷ xs) ≡ true
 found_by p x xs y true e rest h =
@@ -29,7 +25,7 @@ found_by p x xs y true e rest h =
     let same : x ≡ y = cc in
     let on : (x == y) ≡ true = ap (λ z. x == z) (sym same) ∙ itself x in
     ap (λ b. b || list_any (λ z. z == y) xs) on
-found_by p x xs y false e rest h = second_true (x == y) (list_any (λ z. z == y) xs) (rest (rw e at h))
+found_by p x xs y false e rest h = second (x == y) (list_any (λ z. z == y) xs) (rest (rw e at h))
 
 found_there : (p : ℕ → Bool) (xs : List ℕ) (y : ℕ) → find p xs ≡ Some y → list_any (λ z. z == y) xs ≡ true
 found_there p [] y h = absurd (let z : ⊥ = cc in z)

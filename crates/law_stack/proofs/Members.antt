@@ -3,6 +3,7 @@ use Rattle.std.proofs.Common.{◌≡◌, ℕ, zero, suc, ◌+◌, ◌==◌, ◌<
 use Rattle.std.specs.List.{list_any, range_with_len}
 use Rattle.std.proofs.lemmas.Bool.{eqb-true}
 use Rattle.std.proofs.lemmas.Map.Views.{any-filter_same}
+use Rattle.std.proofs.lemmas.Option.{slice_get_within}
 use Rattle.wdf_base.specs.Kinds.{declared_kind, declared_name}
 use Rattle.wdf_base.specs.Plan.{declared_of}
 use Rattle.wdf_base.specs.Resolved.{is_handle, is_kind}
@@ -16,7 +17,6 @@ use Rattle.wdf_model.specs.Plans.{as_device, declared_ids, device_of}
 use Rattle.wdf_model.proofs.Counts.{equal}
 use Rattle.wdf_model.proofs.Tests.{both, both_left}
 use Rattle.law_stack.proofs.Chains.{is_declared}
-use Rattle.law_stack.proofs.Openings.{within}
 
 -- ---- lists
 
@@ -42,7 +42,7 @@ is_device plan d h = both_left (is_some (device_of plan d)) (list_any (λ y. y =
 
 named_there : (plan : Plan) (d : ℕ) (x : Declared) → declared_of plan d ≡ Some x → d < suc (length plan.declared)
 named_there plan zero x h = omega arith
-named_there plan (suc d) x h = let l = within plan.declared d x h in omega (arith, l)
+named_there plan (suc d) x h = let l = slice_get_within plan.declared d x h in omega (arith, l)
 
 kind_is : (x : Option Declared) → same_option same_kind (option_and_then declared_kind x) (Some kind.Device) ≡ true → is_some (as_device x) ≡ true
 kind_is (Some (declared.Device d)) h = refl

@@ -1,7 +1,8 @@
 -- The agents at the opening: a connector for each connected target, and no other agent has one.
-use Rattle.std.proofs.Common.{◌≡◌, ℕ, zero, suc, ◌+◌, ◌-◌, ◌==◌, ◌<◌, ◌≤◌, nat_lt, Bool, true, false, List, [], ◌∷◌, ◌⊎◌, inl, inr, length, map, Option, Some, None, option_map, option_and_then, unwrap_or, slice_get, refl, sym, ap, subst, ◌∙◌, arith}
+use Rattle.std.proofs.Common.{◌≡◌, ℕ, zero, suc, ◌+◌, ◌-◌, ◌==◌, ◌<◌, ◌≤◌, nat_lt, Bool, true, false, List, [], ◌⊎◌, inl, inr, length, map, Option, Some, None, option_map, option_and_then, unwrap_or, slice_get, refl, sym, ap, subst, ◌∙◌, arith}
 use Rattle.std.specs.List.{range_with_len}
 use Rattle.std.proofs.lemmas.Bool.{cases_lt, eqb-true, lt-ltb, ltb-false, ltb-true}
+use Rattle.std.proofs.lemmas.Option.{slice_get_past, slice_get_within}
 use Rattle.wdf_base.specs.Meaning.{Meaning}
 use Rattle.wdf_base.specs.declared.plan.Plan.{Plan}
 use Rattle.wdf_base.specs.declared.declared.TargetInfo.{TargetInfo}
@@ -12,7 +13,6 @@ use Rattle.wdf_model.specs.State.{State, opening}
 use Rattle.wdf_model.specs.agents.Chains.{connected_to}
 use Rattle.wdf_model.specs.agents.Connector.{connector_at}
 use Rattle.wdf_model.specs.agents.StackAgent as stack
-use Rattle.wdf_model.specs.agents.StackAgent.{StackAgent}
 use Rattle.wdf_model.proofs.Tests.{both_right}
 use Rattle.law_stack.specs.Words.{Passing, connector_of, if_connected, passings}
 use Rattle.law_stack.proofs.Connectors.{AgentKept, IsKept}
@@ -32,23 +32,13 @@ past_range f a zero t h = refl
 past_range f a (suc n) zero h = absurd (omega (arith, h))
 past_range f a (suc n) (suc t) h = past_range f (a + 1) n t (omega (arith, h))
 
-pub none_past : {T : Type 0} (xs : List T) (k : ℕ) → length xs ≤ k → slice_get xs k ≡ None
-none_past [] k h = refl
-none_past (x ∷ xs) zero h = absurd (omega (arith, h))
-none_past (x ∷ xs) (suc k) h = none_past xs k (omega (arith, h))
-
-pub within : {T : Type 0} (xs : List T) (k : ℕ) (x : T) → slice_get xs k ≡ Some x → k < length xs
-within [] k x h = absurd (let z : ⊥ = cc in z)
-within (y ∷ xs) zero x h = omega arith
-within (y ∷ xs) (suc k) x h = let l = within xs k x h in omega (arith, l)
-
 depth_of : (o : Option TargetInfo) → (opening_target o).depth ≡ unwrap_or (option_map (λ i. i.depth) o) 0
 depth_of None = refl
 depth_of (Some i) = refl
 
 no_target_past : (plan : Plan) (t : ℕ) → suc (length plan.declared) ≤ t → target_of plan t ≡ None
 no_target_past plan zero h = absurd (omega (arith, h))
-no_target_past plan (suc t) h = ap as_target (none_past plan.declared t (omega (arith, h)))
+no_target_past plan (suc t) h = ap as_target (slice_get_past plan.declared t (omega (arith, h)))
 
 depth_opens_by : (plan : Plan) (t : ℕ) → (t < suc (length plan.declared)) ⊎ (suc (length plan.declared) ≤ t) → unwrap_or (option_map (λ i. i.depth) (target_of plan t)) 0 ≡ (the_target (opening_targets plan) t).depth
 depth_opens_by plan t (inl l) =
@@ -97,7 +87,7 @@ module _ {A : Type 0} (plan : Plan) (m : Meaning A) where
   device_first k d false e h =
       let from = ltb-false k (first_device_agent plan) e in
       let at : slice_get (devices_of plan) (k - first_device_agent plan) ≡ Some d = rw e at h in
-      let less = within (devices_of plan) (k - first_device_agent plan) d at in
+      let less = slice_get_within (devices_of plan) (k - first_device_agent plan) d at in
       let early : nat_lt k (first_device_agent plan + length (devices_of plan)) ≡ true = lt-ltb k (first_device_agent plan + length (devices_of plan)) (omega (arith, from, less)) in
       rw early refl
 

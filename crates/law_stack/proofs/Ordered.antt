@@ -2,8 +2,8 @@
 use Rattle.std.proofs.Common.{if◌then◌else◌, ◌≡◌, ℕ, zero, suc, ◌+◌, ◌==◌, nat_le, ◌≤◌, Bool, true, false, not, ◌&&◌, ◌||◌, List, [], ◌∷◌, ◌++◌, length, take, Option, Some, None, is_some, option_map, unwrap_or, slice_get, refl, sym, ap, subst, ◌∙◌, arith, rules}
 use Rattle.std.specs.Bool.{Decides}
 use Rattle.std.proofs.lemmas.Bool.{eqb-true}
-use Rattle.std.specs.List.{list_all}
 use Rattle.std.proofs.lemmas.List.{length-map}
+use Rattle.std.proofs.lemmas.Option.{slice_get_past}
 use Rattle.wdf_base.specs.Meaning.{Meaning}
 use Rattle.wdf_base.specs.Resolved.{IsResolved, is_handle, is_ticks, pnp_post}
 use Rattle.wdf_base.specs.declared.plan.Plan.{Plan}
@@ -26,7 +26,7 @@ use Rattle.wdf_model.specs.rules.Posts.{due_of, post_answer, post_fits}
 use Rattle.wdf_model.specs.rules.Ready.{IsRunOf, state_after}
 use Rattle.wdf_model.specs.rules.Steps.{after, may}
 use Rattle.wdf_model.specs.agents.StackAgent as stack
-use Rattle.wdf_model.specs.agents.StackAgent.{StackAgent, agent_after, agent_at, agent_due}
+use Rattle.wdf_model.specs.agents.StackAgent.{StackAgent, agent_after, agent_due}
 use Rattle.wdf_model.specs.agents.StackManager.{StackManager, ask_of, due_of_line, first_in, first_post, is_working, leader, known, manager_posted, next_post, phase_in, stack_device, stack_manager_after, stack_manager_at, stack_manager_due}
 use Rattle.wdf_model.proofs.Runs.{take_ended, take_next}
 use Rattle.wdf_model.proofs.Sames.{handle_same}
@@ -43,8 +43,8 @@ use Rattle.law_stack.proofs.Chains.{Knows, at_phase, knows_opens, knows_same, op
 use Rattle.law_stack.proofs.Heard.{agent_before, opens_as}
 use Rattle.law_stack.proofs.Knowing.{as_many, knows_next, phases_after, same_lines}
 use Rattle.law_stack.proofs.Leading.{Goes, Stands, stands_asked, stands_begun, stands_ended, stands_passed, stands_still}
+use Rattle.law_stack.proofs.Levels.{all_at}
 use Rattle.law_stack.proofs.Lines.{nothing_before}
-use Rattle.law_stack.proofs.Openings.{none_past}
 use Rattle.law_stack.proofs.Members.{handle_declared, is_device}
 use Rattle.law_stack.proofs.Orders.{first_in_order, follower_known}
 use Rattle.law_stack.proofs.Requests.{posted_is_due}
@@ -70,7 +70,7 @@ LedBy plan es Q _ = ⊥
 
 no_device_past : (plan : Plan) (d : ℕ) → suc (length plan.declared) ≤ d → device_of plan d ≡ None
 no_device_past plan zero h = absurd (omega (arith, h))
-no_device_past plan (suc d) h = ap as_device (none_past plan.declared d (omega (arith, h)))
+no_device_past plan (suc d) h = ap as_device (slice_get_past plan.declared d (omega (arith, h)))
 
 opening_sequences : (plan : Plan) (d : ℕ) → sequence_of (opening_pnp plan) d ≡ opening_sequence plan d (device_of plan d)
 opening_sequences plan d =
@@ -148,11 +148,6 @@ posts_by m a n None e h = record { waits_not = e; next = next_by m a n (next_pos
 
 line_fits : (plan : Plan) (l : PostLine) (a : Ask) (d : Handle) → l.post ≡ post.Ask a d → pnp_post plan l ≡ true → is_handle plan kind.Device d ≡ true
 line_fits plan l a d e h = both_right (is_ticks l.tick) (is_handle plan kind.Device d) (rw e at h)
-
-all_at : {T : Type 0} (p : T → Bool) (xs : List T) (k : ℕ) (x : T) → list_all p xs ≡ true → slice_get xs k ≡ Some x → p x ≡ true
-all_at p [] k x h at = absurd (let z : ⊥ = cc in z)
-all_at p (y ∷ ys) zero x h at = let same : y ≡ x = cc in subst (λ z. p z ≡ true) same (both_left (p y) (list_all p ys) h)
-all_at p (y ∷ ys) (suc k) x h at = all_at p ys k x (both_right (p y) (list_all p ys) h) at
 
 module _ (plan : Plan) (resolved : IsResolved plan) (es : List Event) (Q : Pnp) (m : StackManager) (leads : Leads plan es Q m) (a : Ask) (n : Handle) (fits : is_handle plan kind.Device n ≡ true) where
   abbrev this : AskPost

@@ -15,7 +15,7 @@ use Rattle.wdf_model.specs.declared.enums.Phase.{Phase}
 use Rattle.wdf_model.specs.declared.enums.Phase.TheVariants.{Off, Working, Sleeping, Removed}
 use Rattle.wdf_model.specs.parts.Pnp.{DeviceSteps, InterruptSteps, disable_steps, down_steps, enable_steps, end_steps, flush_steps, hard_steps, pass, quiet_steps, run, run_if, self_managed_start, steps_for, tail_steps, up_steps}
 use Rattle.wdf_model.specs.agents.StackManager.{changes_nothing, goes_up, is_alone, phase_of_stage}
-use Rattle.wdf_model.proofs.Tests.{both, both_left, both_right}
+use Rattle.wdf_model.proofs.Tests.{both, both_left, both_right, second}
 
 -- a stage after which the device is Working, Sleeping or Removed
 abbrev pub is_last : Step → Bool
@@ -69,15 +69,11 @@ all_not_up : (xs : List Step) → list_all is_calm xs ≡ true → list_all not_
 all_not_up [] h = h
 all_not_up (x ∷ xs) h = both (not_up x) (list_all not_up xs) (calm_is_not_up x (both_left (is_calm x) (list_all is_calm xs) h)) (all_not_up xs (both_right (is_calm x) (list_all is_calm xs) h))
 
-second_so : (a b : Bool) → b ≡ true → (a || b) ≡ true
-second_so true b h = refl
-second_so false b h = h
-
 -- calm steps, and then a list of which only the last may be such a stage
 last_joined : (xs ys : List Step) → list_all is_calm xs ≡ true → last_only ys ≡ true → last_only (xs ++ ys) ≡ true
 last_joined [] ys h k = k
 last_joined (x ∷ xs) ys h k =
-    both (is_nothing (xs ++ ys) || is_calm x) (last_only (xs ++ ys)) (second_so (is_nothing (xs ++ ys)) (is_calm x) (both_left (is_calm x) (list_all is_calm xs) h))
+    both (is_nothing (xs ++ ys) || is_calm x) (last_only (xs ++ ys)) (second (is_nothing (xs ++ ys)) (is_calm x) (both_left (is_calm x) (list_all is_calm xs) h))
     (last_joined xs ys (both_right (is_calm x) (list_all is_calm xs) h) k)
 
 pub last_dropped : (xs : List Step) → last_only xs ≡ true → last_only (drop 1 xs) ≡ true

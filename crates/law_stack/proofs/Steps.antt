@@ -122,8 +122,8 @@ pub record Agrees (before : List Event) (c : Connector) (ps : List Passing) : Ty
   pub asks : AsksAll c
 
 -- one more event that changes neither
-quiet : (before : List Event) (e : Event) (c : Connector) (ps : List Passing) → Agrees before c ps → Agrees (before ++ e ∷ []) c ps
-quiet before e c ps h = record { alike = alike_more before e c.sent ps h.alike; asks = h.asks }
+pub quiet_agrees : (before : List Event) (e : Event) (c : Connector) (ps : List Passing) → Agrees before c ps → Agrees (before ++ e ∷ []) c ps
+quiet_agrees before e c ps h = record { alike = alike_more before e c.sent ps h.alike; asks = h.asks }
 
 cancel_agrees : (before : List Event) (c : Connector) (ps : List Passing) (r : ℕ) → Agrees before c ps → Agrees before (cancelled c r) (Words.with_cancel (λ x. x == r) ps)
 cancel_agrees before c ps r h = record { alike = alike_cancelled before r c.sent ps h.alike; asks = h.asks }
@@ -149,9 +149,9 @@ module _ (before : List Event) (t : ℕ) (c : Connector) (ps : List Passing) (h 
             (record { request = refl; cancelled = refl; descent = refl; asks = post_asks c r.id.0 h.asks });
         asks = h.asks;
       })
-  sent_by e (Val (Num n)) room = quiet before e c ps h
-  sent_by e (Val (Stat s)) room = quiet before e c ps h
-  sent_by e (Class k) room = quiet before e c ps h
+  sent_by e (Val (Num n)) room = quiet_agrees before e c ps h
+  sent_by e (Val (Stat s)) room = quiet_agrees before e c ps h
+  sent_by e (Class k) room = quiet_agrees before e c ps h
 
   send_by : (e : Event) (k : Call) (answer : Value) (b : Bool) → (object_in k.b == c.target && same_value answer (Num 1)) ≡ b → (b ≡ true → nat_lt (length c.sent) c.depth ≡ true)
       → Agrees (before ++ e ∷ []) (send_called c k answer) (if object_in k.b == t && same_value answer (Num 1) then Words.with_send (argument_object k.a) ps else ps)
@@ -160,12 +160,12 @@ module _ (before : List Event) (t : ℕ) (c : Connector) (ps : List Passing) (h 
       rw (is, too) (sent_by e k.a (room refl))
   send_by e k answer false is room =
       let too : (object_in k.b == t && same_value answer (Num 1)) ≡ false = ap (λ n. object_in k.b == n && same_value answer (Num 1)) (sym at) ∙ is in
-      rw (is, too) (quiet before e c ps h)
+      rw (is, too) (quiet_agrees before e c ps h)
 
   cancel_by : (e : Event) (k : Call) (answer : Value) (b : Bool) → same_value answer (Num 1) ≡ b
       → Agrees (before ++ e ∷ []) (cancel_called c k answer) (if same_value answer (Num 1) then Words.with_cancel (λ r. r == object_in k.a) ps else ps)
-  cancel_by e k answer true is = rw is (cancel_agrees (before ++ e ∷ []) c ps (object_in k.a) (quiet before e c ps h))
-  cancel_by e k answer false is = rw is (quiet before e c ps h)
+  cancel_by e k answer true is = rw is (cancel_agrees (before ++ e ∷ []) c ps (object_in k.a) (quiet_agrees before e c ps h))
+  cancel_by e k answer false is = rw is (quiet_agrees before e c ps h)
 
   stop_by : (e : Event) (k : Call) (b : Bool) → (object_in k.a == c.target && arg_is k.b 0) ≡ b
       → Agrees (before ++ e ∷ []) (stop_called c k) (if object_in k.a == t && arg_is k.b 0 then Words.with_cancel (λ r. true) ps else ps)
@@ -174,16 +174,16 @@ module _ (before : List Event) (t : ℕ) (c : Connector) (ps : List Passing) (h 
       rw (is, too) (record { alike = alike_all_cancelled (before ++ e ∷ []) c.sent ps (alike_more before e c.sent ps h.alike); asks = h.asks })
   stop_by e k false is =
       let too : (object_in k.a == t && arg_is k.b 0) ≡ false = ap (λ n. object_in k.a == n && arg_is k.b 0) (sym at) ∙ is in
-      rw (is, too) (quiet before e c ps h)
+      rw (is, too) (quiet_agrees before e c ps h)
 
   complete_by : (cpu : Cpu) (n : ℕ) (a b x : Arg) (answer : Value)
       → Agrees (before ++ event.Did cpu (record { kind = call.WdfRequestComplete; count = n; a = a; b = b; c = x }) answer ∷ []) (completed_by c (object_in a) b) ps
   complete_by cpu n a (Val (Stat s)) x answer =
       completed_agrees before (event.Did cpu (record { kind = call.WdfRequestComplete; count = n; a = a; b = Val (Stat s); c = x }) answer) c ps (object_in a) s
       (both (object_in a == object_in a) (same_status s s) (itself (object_in a)) (same_itself s)) h
-  complete_by cpu n a (Val (Num m)) x answer = quiet before _ c ps h
-  complete_by cpu n a (Val (Obj o)) x answer = quiet before _ c ps h
-  complete_by cpu n a (Class k) x answer = quiet before _ c ps h
+  complete_by cpu n a (Val (Num m)) x answer = quiet_agrees before _ c ps h
+  complete_by cpu n a (Val (Obj o)) x answer = quiet_agrees before _ c ps h
+  complete_by cpu n a (Class k) x answer = quiet_agrees before _ c ps h
 
   pub did_agrees : (agent : ℕ) (cpu : Cpu) (kind : CallKind) (n : ℕ) (a b x : Arg) (answer : Value)
       → ((object_in b == c.target && same_value answer (Num 1)) ≡ true → kind ≡ call.WdfRequestSend → nat_lt (length c.sent) c.depth ≡ true)
@@ -194,14 +194,14 @@ module _ (before : List Event) (t : ℕ) (c : Connector) (ps : List Passing) (h 
   did_agrees agent cpu call.WdfRequestCancelSentRequest n a b x answer room = cancel_by _ (record { kind = call.WdfRequestCancelSentRequest; count = n; a = a; b = b; c = x }) answer (same_value answer (Num 1)) refl
   did_agrees agent cpu call.WdfIoTargetStop n a b x answer room = stop_by _ (record { kind = call.WdfIoTargetStop; count = n; a = a; b = b; c = x }) (object_in a == c.target && arg_is b 0) refl
   did_agrees agent cpu call.WdfRequestComplete n a b x answer room = complete_by cpu n a b x answer
-  did_agrees agent cpu _ n a b x answer room = quiet before _ c ps h
+  did_agrees agent cpu _ n a b x answer room = quiet_agrees before _ c ps h
 
   pub waiting_agrees : (agent : ℕ) (cpu : Cpu) (kind : CallKind) (n : ℕ) (a b x : Arg)
       → Agrees (before ++ event.Waiting cpu (record { kind = kind; count = n; a = a; b = b; c = x }) ∷ [])
       (connector_after c (event.Waiting cpu (record { kind = kind; count = n; a = a; b = b; c = x })))
       (passing_step t agent ps (event.Waiting cpu (record { kind = kind; count = n; a = a; b = b; c = x })))
   waiting_agrees agent cpu call.WdfIoTargetStop n a b x = stop_by _ (record { kind = call.WdfIoTargetStop; count = n; a = a; b = b; c = x }) (object_in a == c.target && arg_is b 0) refl
-  waiting_agrees agent cpu _ n a b x = quiet before _ c ps h
+  waiting_agrees agent cpu _ n a b x = quiet_agrees before _ c ps h
 
 -- ---- posts
 
@@ -296,14 +296,14 @@ stays_after c _ = same_all c
 module _ (before : List Event) (t agent : ℕ) (c : Connector) (ps : List Passing) (h : Agrees before c ps) (at : c.agent ≡ agent) where
   arrival_agrees : (by : ℕ) (p : Post) (answer : Option Handle) (e : Event) → is_request p ≡ true → Agrees (before ++ e ∷ []) (arrival_posted c by p answer) (passing_arrived agent by ps answer)
   arrival_agrees by p answer e is =
-      let kept = kept_agrees (before ++ e ∷ []) c ps p answer is (quiet before e c ps h) in
+      let kept = kept_agrees (before ++ e ∷ []) c ps p answer is (quiet_agrees before e c ps h) in
       let taken = taken_agrees (before ++ e ∷ []) (keep_arrival c p answer) ps by (nat_le (keep_arrival c p answer).first by) refl kept in
       let same : (arrival_taken (keep_arrival c p answer) by).agent ≡ agent = (taken_stays (keep_arrival c p answer) by).agent ∙ (kept_stays c p answer).agent ∙ at in
       own_agrees (before ++ e ∷ []) (arrival_taken (keep_arrival c p answer) by) ps agent by answer (by == (arrival_taken (keep_arrival c p answer) by).agent) same refl taken
 
   reached_agrees : (answer : Option Handle) (e : Event) → Agrees (before ++ e ∷ []) (cancelled_if_any c answer) (Words.passing_cancelled ps answer)
-  reached_agrees None e = quiet before e c ps h
-  reached_agrees (Some r) e = cancel_agrees (before ++ e ∷ []) c ps r.id.0 (quiet before e c ps h)
+  reached_agrees None e = quiet_agrees before e c ps h
+  reached_agrees (Some r) e = cancel_agrees (before ++ e ∷ []) c ps r.id.0 (quiet_agrees before e c ps h)
 
   passed_agrees : (by k : ℕ) (answer : Option Handle) (e : Event) (b : Bool) → (by == c.agent) ≡ b → Agrees (before ++ e ∷ []) (cancel_posted c by k answer) (Words.passing_cancelled ps answer)
   passed_agrees by k answer e true is =
@@ -325,7 +325,7 @@ module _ (before : List Event) (t agent : ℕ) (c : Connector) (ps : List Passin
       → Agrees (before ++ e ∷ []) (if by == c.agent then without_request c r.id.0 else c) (without_done r.id.0 ps)
   done_agrees by r s e true is gone = rw is (record { alike = alike_done (before ++ e ∷ []) r.id.0 c.sent ps (alike_more before e c.sent ps h.alike); asks = h.asks })
   done_agrees by r s e false is gone =
-      rw is (subst (Agrees (before ++ e ∷ []) c) (sym (none_gone r.id.0 ps (gone refl))) (quiet before e c ps h))
+      rw is (subst (Agrees (before ++ e ∷ []) c) (sym (none_gone r.id.0 ps (gone refl))) (quiet_agrees before e c ps h))
 
   pub post_agrees : (by : ℕ) (p : Post) (answer : Option Handle) → ((r : Handle) (s : Status) → p ≡ post.Done r s → (by == c.agent) ≡ false → times_of (λ (q : Passing). q.request) r.id.0 ps ≡ 0)
       → Agrees (before ++ event.Posted by p answer ∷ []) (connector_after c (event.Posted by p answer)) (passing_step t agent ps (event.Posted by p answer))
@@ -334,13 +334,10 @@ module _ (before : List Event) (t agent : ℕ) (c : Connector) (ps : List Passin
   post_agrees by (post.Control d x n) answer gone = arrival_agrees by (post.Control d x n) answer _ refl
   post_agrees by (post.Cancel k) answer gone = passed_agrees by k answer _ (by == c.agent) refl
   post_agrees by (post.Done r s) answer gone = done_agrees by r s _ (by == c.agent) refl (λ n. gone r s refl n)
-  post_agrees by (post.Ask a d) answer gone = quiet before _ c ps h
-  post_agrees by (post.Act a) answer gone = quiet before _ c ps h
+  post_agrees by (post.Ask a d) answer gone = quiet_agrees before _ c ps h
+  post_agrees by (post.Act a) answer gone = quiet_agrees before _ c ps h
 
 -- a completion by the framework
 pub complete_agrees : (before : List Event) (t agent : ℕ) (c : Connector) (ps : List Passing) (r : Handle) (s : Status) → Agrees before c ps → Agrees (before ++ event.Complete r s ∷ []) (connector_after c (event.Complete r s)) ps
 complete_agrees before t agent c ps r s h =
     completed_agrees before (event.Complete r s) c ps r.id.0 s (both (r.id.0 == r.id.0) (same_status s s) (itself r.id.0) (same_itself s)) h
-
-pub quiet_agrees : (before : List Event) (e : Event) (c : Connector) (ps : List Passing) → Agrees before c ps → Agrees (before ++ e ∷ []) c ps
-quiet_agrees = quiet

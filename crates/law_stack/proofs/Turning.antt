@@ -18,6 +18,7 @@ use Rattle.wdf_model.proofs.Counts.{equal, not_equal, one_or_two}
 use Rattle.wdf_model.proofs.Maps.{entry_put_other, entry_put_same}
 use Rattle.law_trace_power.proofs.Happens.{taken_pass, taken_run}
 use Rattle.law_trace_turns.specs.Turned.{Asked, Begun, Ended, Passed, Still, Turned, is_turning}
+use Rattle.law_stuck_named.proofs.Lasting.{passed_left}
 use Rattle.law_stack.proofs.Chains.{phase_after}
 use Rattle.law_stack.proofs.Knowing.{phases_after}
 use Rattle.law_stack.proofs.Sequences.{last_asked, last_dropped, last_end, last_only, last_tail}
@@ -119,12 +120,6 @@ phase_turns S U e (Asked agent a n answer is free same) k =
     ap (λ Q. phase_of Q k) same ∙ one_phase S.pnp n.id.0 k (λ q. record q { left = steps_for q.steps q.ever_working q.phase a }) refl ∙ sym (ap (λ x. phases_after x (phase_of S.pnp) k) is)
 
 -- ---- only the last step that is left is such a stage
-
-passed_left : (s : Stage) (q : Sequence) → (passed s q).left ≡ q.left
-passed_left stage.Working q = refl
-passed_left stage.Sleeping q = refl
-passed_left stage.Removed q = refl
-passed_left _ q = refl
 
 pub passed_running : (s : Stage) (q : Sequence) → (passed s q).running ≡ q.running
 passed_running stage.Working q = refl
