@@ -21,7 +21,7 @@ use Rattle.check_past.specs.declared.signs.Signs.{Signs}
 use Rattle.check_past.specs.declared.lists.Lists.{Lists}
 use Rattle.check_past.specs.Last.{last, stood}
 use Rattle.check_past.specs.Maps.{or_zero, or_false, or_empty, number_at, group_at, put_at, counted}
-use Rattle.check_past.specs.Codes.{code_of, number_in, noted_all}
+use Rattle.check_past.specs.Codes.{code_of, noted_each, number_in, rows_of}
 use Rattle.check_past.specs.Groups.{with_arrival, arrived_for, with_taking, takings_for}
 use Rattle.check_past.specs.Order.{shown_by, with_entry, tail_entry, with_number, tail_number, with_head, heads}
 use Rattle.check_past.specs.Past.{Read, before, is_device_entered, device_of_interrupt}
@@ -36,7 +36,7 @@ last_more : (p : Sign) (all : List Event) (k : ℕ) (e : Event) → slice_get al
 unfolding last
 last_more p all k e h = let n : k + 1 ≡ suc k = omega arith in rw (n, h) refl
 
-lasts_more : (p : Sign) (all : List Event) (k : ℕ) (e : Event) (was now : ℕ) → slice_get all k ≡ Some e → was ≡ last p all k → now ≡ noted_all e (k + 1) (code_of p) was → now ≡ last p all (k + 1)
+lasts_more : (p : Sign) (all : List Event) (k : ℕ) (e : Event) (was now : ℕ) → slice_get all k ≡ Some e → was ≡ last p all k → now ≡ noted_each (rows_of e) (k + 1) (code_of p) was → now ≡ last p all (k + 1)
 lasts_more p all k e was now h is step = step ∙ sign_noted p e (k + 1) was ∙ ap (λ n. if shows p e then k + 1 else n) is ∙ last_more p all k e h
 
 stood_more : (p a b : Sign) (all : List Event) (k : ℕ) (e : Event) → slice_get all k ≡ Some e → (if shows p e then stands a b (take k all) else stood p a b all k) ≡ stood p a b all (k + 1)
@@ -71,7 +71,7 @@ times_more p all k e was now h is step =
 pub signs_more : (plan : Plan) (all : List Event) (k : ℕ) (e : Event) (s s' : Signs) (up enabled : Bool) → slice_get all k ≡ Some e → AreSigns plan all k s
     → up ≡ is_device_entered (take k all) (passed stage.QueuesUp e)
     → enabled ≡ is_device_entered (take k all) (device_of_interrupt plan (passed_for stage.Enabled e))
-    → ((q : List ℕ) → number_in s'.lasts q ≡ noted_all e (k + 1) q (number_in s.lasts q))
+    → ((q : List ℕ) → number_in s'.lasts q ≡ noted_each (rows_of e) (k + 1) q (number_in s.lasts q))
     → ((d : ℕ) → get nat_eq s'.up d ≡ put_at (passed stage.QueuesUp e) up d (get nat_eq s.up d))
     → ((i : ℕ) → get nat_eq s'.enabled i ≡ put_at (passed_for stage.Enabled e) enabled i (get nat_eq s.enabled i))
     → ((o : ℕ) → number_at s'.referenced o ≡ counted (called call.WdfObjectReference e) o (number_at s.referenced o))

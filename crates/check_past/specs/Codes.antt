@@ -1,5 +1,5 @@
 -- The codes of signs, by which they are looked up: a sign's kind and its ids.
-use Rattle.std.specs.Prelude.{if◌then◌else◌, ℕ, Bool, true, false, ◌&&◌, nat_eq, List, [], ◌∷◌, Option}
+use Rattle.std.specs.Prelude.{if◌then◌else◌, ℕ, Bool, true, false, ◌&&◌, nat_eq, List, [], ◌∷◌, fold, Option, option_map}
 use Rattle.std.specs.Cmp.Lexicographic.{pointwise}
 use Rattle.std.specs.HashMap.{HashMap, get}
 use Rattle.wdf_base.specs.declared.call.CallKind.TheVariants as call
@@ -11,6 +11,8 @@ use Rattle.wdf_laws.specs.declared.sign.Sign.TheVariants as sign
 use Rattle.wdf_laws.specs.declared.sign.Taking.{Taking}
 use Rattle.wdf_laws.specs.Events.{is_id, called, called_well, begun_on, begun_for, ended_on, passed, passed_for, arrived, cancel_posted, completed, taken, given_up, headed, tailed, acknowledged, mark_undone, cleaned, destroyed}
 use Rattle.wdf_laws.specs.Signs.{is_taking_of}
+use Rattle.check_past.specs.declared.code.Row.{Row}
+use Rattle.check_past.specs.declared.code.Row.TheVariants as row
 use Rattle.check_past.specs.Maps.{or_zero}
 
 abbrev pub code_of : Sign → List ℕ
@@ -51,38 +53,48 @@ abbrev pub is_pair : ℕ → Option Taking → List ℕ → Bool
 is_pair kind taking (k ∷ x ∷ y ∷ []) = nat_eq kind k && is_taking_of x y taking
 is_pair kind taking _ = false
 
--- the number at a code after this number is noted at another one, if there is one
-unfoldable pub noted : ℕ → Option ℕ → ℕ → List ℕ → ℕ → ℕ
-noted kind id number q kept = if is_single kind id q then number else kept
+-- the code of what a row shows
+abbrev pub code_in : Row → Option (List ℕ)
+code_in (row.Single kind id) = option_map (λ x. kind ∷ x ∷ 0 ∷ []) id
+code_in (row.Pair kind taking) = option_map (λ (t : Taking). kind ∷ t.request ∷ t.queue ∷ []) taking
 
-unfoldable pub noted_pair : ℕ → Option Taking → ℕ → List ℕ → ℕ → ℕ
-noted_pair kind taking number q kept = if is_pair kind taking q then number else kept
+-- a code is that of what a row shows
+abbrev pub is_shown : Row → List ℕ → Bool
+is_shown (row.Single kind id) q = is_single kind id q
+is_shown (row.Pair kind taking) q = is_pair kind taking q
 
--- ---- the number at a code after the number of an event is noted at each sign that it shows
+-- the number at a code after this number is noted at that of what a row shows, or of what each row shows
+unfoldable pub noted : Row → ℕ → List ℕ → ℕ → ℕ
+noted r number q kept = if is_shown r q then number else kept
 
-abbrev pub noted_queued : Event → ℕ → List ℕ → ℕ → ℕ
-noted_queued e n q kept = noted 6 (acknowledged e) n q (noted 5 (tailed e) n q (noted 5 (headed e) n q (noted 4 (headed e) n q kept)))
+unfoldable pub noted_each : List Row → ℕ → List ℕ → ℕ → ℕ
+noted_each rows number q kept = fold (λ n r. noted r number q n) kept rows
 
-abbrev pub noted_held : Event → ℕ → List ℕ → ℕ → ℕ
-noted_held e n q kept = noted 3 (given_up e) n q (noted_pair 2 (taken e) n q (noted 1 (completed e) n q (noted 0 (arrived e) n q kept)))
-
-abbrev pub noted_cancels : Event → ℕ → List ℕ → ℕ → ℕ
-noted_cancels e n q kept =
-    noted 10 (mark_undone e) n q (noted 9 (called_well call.WdfRequestMarkCancelableEx e) n q (noted 8 (begun_for callback.EvtRequestCancel e) n q (noted 7 (cancel_posted e) n q kept)))
-
-abbrev pub noted_stages : Event → ℕ → List ℕ → ℕ → ℕ
-noted_stages e n q kept =
-    noted 14 (passed stage.QueuesDown e) n q (noted 13 (passed stage.QueuesUp e) n q (noted 12 (passed_for stage.Disabled e) n q (noted 11 (passed_for stage.Enabled e) n q kept)))
-
-abbrev pub noted_power : Event → ℕ → List ℕ → ℕ → ℕ
-noted_power e n q kept =
-    noted 17 (begun_on callback.EvtDeviceD0Exit e) n q
-    (noted 16 (begun_on callback.EvtDeviceD0Exit e) n q (noted 16 (ended_on callback.EvtDeviceD0Entry false e) n q (noted 15 (ended_on callback.EvtDeviceD0Entry true e) n q kept)))
-
-abbrev pub noted_objects : Event → ℕ → List ℕ → ℕ → ℕ
-noted_objects e n q kept =
-    noted 21 (called call.WdfObjectDereference e) n q (noted 20 (called call.WdfObjectReference e) n q (noted 19 (destroyed e) n q (noted 18 (cleaned e) n q kept)))
-
-abbrev pub noted_all : Event → ℕ → List ℕ → ℕ → ℕ
-noted_all e n q kept =
-    noted_objects e n q (noted_power e n q (noted_stages e n q (noted_cancels e n q (noted_queued e n q (noted_held e n q kept)))))
+-- what an event shows of each sign
+abbrev pub rows_of : Event → List Row
+rows_of e =
+    row.Single 0 (arrived e)
+    ∷ row.Single 1 (completed e)
+    ∷ row.Pair 2 (taken e)
+    ∷ row.Single 3 (given_up e)
+    ∷ row.Single 4 (headed e)
+    ∷ row.Single 5 (headed e)
+    ∷ row.Single 5 (tailed e)
+    ∷ row.Single 6 (acknowledged e)
+    ∷ row.Single 7 (cancel_posted e)
+    ∷ row.Single 8 (begun_for callback.EvtRequestCancel e)
+    ∷ row.Single 9 (called_well call.WdfRequestMarkCancelableEx e)
+    ∷ row.Single 10 (mark_undone e)
+    ∷ row.Single 11 (passed_for stage.Enabled e)
+    ∷ row.Single 12 (passed_for stage.Disabled e)
+    ∷ row.Single 13 (passed stage.QueuesUp e)
+    ∷ row.Single 14 (passed stage.QueuesDown e)
+    ∷ row.Single 15 (ended_on callback.EvtDeviceD0Entry true e)
+    ∷ row.Single 16 (ended_on callback.EvtDeviceD0Entry false e)
+    ∷ row.Single 16 (begun_on callback.EvtDeviceD0Exit e)
+    ∷ row.Single 17 (begun_on callback.EvtDeviceD0Exit e)
+    ∷ row.Single 18 (cleaned e)
+    ∷ row.Single 19 (destroyed e)
+    ∷ row.Single 20 (called call.WdfObjectReference e)
+    ∷ row.Single 21 (called call.WdfObjectDereference e)
+    ∷ []

@@ -49,38 +49,47 @@ pub fn number_in(numbers: &HashMap<Code, usize>, code: &Code) -> usize
     }
 }
 
-/// Notes a number at the code of a kind and an id, if there is one.
-pub fn note(
-    numbers: &mut HashMap<Code, usize>,
-    kind: u32,
-    id: Option<u32>,
-    number: usize,
-) -> Result<(), Memory>
-    ensures { OnOk result ((q : List ℕ) → codes.number_in numbers.new q ≡ codes.noted kind id number q (codes.number_in numbers.old q)) }
+/// A kind of sign, with the id or the taking that an event shows it of, if it does.
+#[derive(Clone, Copy)]
+pub enum Row {
+    Single(u32, Option<u32>),
+    Pair(u32, Option<Taking>),
+}
+
+/// The code of what a row shows.
+fn code_in(row: Row) -> Option<Code>
+    ensures { result ≡ codes.code_in row }
 {
-    match id {
-        Some(id) => {
-            numbers.insert([kind, id, 0], number)?;
+    match row {
+        Row::Single(kind, Some(id)) => Some([kind, id, 0]),
+        Row::Pair(kind, Some(taking)) => Some([kind, taking.request, taking.queue]),
+        Row::Single(_, None) | Row::Pair(_, None) => None,
+    }
+}
+
+/// Notes a number at the code of what a row shows, if it shows something.
+fn note(numbers: &mut HashMap<Code, usize>, row: Row, number: usize) -> Result<(), Memory>
+    ensures { OnOk result ((q : List ℕ) → codes.number_in numbers.new q ≡ codes.noted row number q (codes.number_in numbers.old q)) }
+{
+    match code_in(row) {
+        Some(code) => {
+            numbers.insert(code, number)?;
         }
         None => {}
     }
     Ok(())
 }
 
-/// Notes a number at the code of a kind and the ids of a taking, if there is one.
-pub fn note_pair(
+/// Notes a number at the code of what each row shows.
+pub fn note_each(
     numbers: &mut HashMap<Code, usize>,
-    kind: u32,
-    taking: Option<Taking>,
+    rows: &[Row],
     number: usize,
 ) -> Result<(), Memory>
-    ensures { OnOk result ((q : List ℕ) → codes.number_in numbers.new q ≡ codes.noted_pair kind taking number q (codes.number_in numbers.old q)) }
+    ensures { OnOk result ((q : List ℕ) → codes.number_in numbers.new q ≡ codes.noted_each rows.now number q (codes.number_in numbers.old q)) }
 {
-    match taking {
-        Some(taking) => {
-            numbers.insert([kind, taking.request, taking.queue], number)?;
-        }
-        None => {}
+    for row in rows {
+        note(numbers, *row, number)?;
     }
     Ok(())
 }

@@ -7,7 +7,7 @@ ghost use Rattle.check_past.specs.Maps as maps;
 ghost use Rattle.wdf_base.specs.declared.call.CallKind.TheVariants as call;
 ghost use Rattle.wdf_base.specs.declared.event.Stage.TheVariants as stage;
 
-use crate::code::{Code, note, note_pair};
+use crate::code::{Code, Row, note_each};
 use crate::maps::{Flags, Numbers, number_at, put};
 use check_signs::{
     acknowledged, arrived, begun_for, begun_on, called, called_well, cancel_posted, cleaned,
@@ -33,118 +33,36 @@ pub struct Signs {
     pub dereferenced: Numbers,
 }
 
-type Lasts = HashMap<Code, usize>;
-
-fn note_held(lasts: &mut Lasts, event: &Event, number: usize) -> Result<(), Memory>
-    ensures { OnOk result ((q : List ℕ) → codes.number_in lasts.new q ≡ codes.noted_held event.now number q (codes.number_in lasts.old q)) }
+/// What an event shows of each sign.
+fn rows_of(event: &Event) -> [Row; 24]
+    ensures { result ≡ codes.rows_of event.now }
 {
-    note(lasts, 0, arrived(event), number)?;
-    note(lasts, 1, completed(event), number)?;
-    note_pair(lasts, 2, taken(event), number)?;
-    note(lasts, 3, given_up(event), number)?;
-    Ok(())
-}
-
-fn note_queued(lasts: &mut Lasts, event: &Event, number: usize) -> Result<(), Memory>
-    ensures { OnOk result ((q : List ℕ) → codes.number_in lasts.new q ≡ codes.noted_queued event.now number q (codes.number_in lasts.old q)) }
-{
-    note(lasts, 4, headed(event), number)?;
-    note(lasts, 5, headed(event), number)?;
-    note(lasts, 5, tailed(event), number)?;
-    note(lasts, 6, acknowledged(event), number)?;
-    Ok(())
-}
-
-fn note_cancels(lasts: &mut Lasts, event: &Event, number: usize) -> Result<(), Memory>
-    ensures { OnOk result ((q : List ℕ) → codes.number_in lasts.new q ≡ codes.noted_cancels event.now number q (codes.number_in lasts.old q)) }
-{
-    note(lasts, 7, cancel_posted(event), number)?;
-    note(
-        lasts,
-        8,
-        begun_for(Callback::EvtRequestCancel, event),
-        number,
-    )?;
-    note(
-        lasts,
-        9,
-        called_well(CallKind::WdfRequestMarkCancelableEx, event),
-        number,
-    )?;
-    note(lasts, 10, mark_undone(event), number)?;
-    Ok(())
-}
-
-fn note_stages(lasts: &mut Lasts, event: &Event, number: usize) -> Result<(), Memory>
-    ensures { OnOk result ((q : List ℕ) → codes.number_in lasts.new q ≡ codes.noted_stages event.now number q (codes.number_in lasts.old q)) }
-{
-    note(lasts, 11, passed_for(Stage::Enabled, event), number)?;
-    note(lasts, 12, passed_for(Stage::Disabled, event), number)?;
-    note(lasts, 13, passed(Stage::QueuesUp, event), number)?;
-    note(lasts, 14, passed(Stage::QueuesDown, event), number)?;
-    Ok(())
-}
-
-fn note_power(lasts: &mut Lasts, event: &Event, number: usize) -> Result<(), Memory>
-    ensures { OnOk result ((q : List ℕ) → codes.number_in lasts.new q ≡ codes.noted_power event.now number q (codes.number_in lasts.old q)) }
-{
-    note(
-        lasts,
-        15,
-        ended_on(Callback::EvtDeviceD0Entry, true, event),
-        number,
-    )?;
-    note(
-        lasts,
-        16,
-        ended_on(Callback::EvtDeviceD0Entry, false, event),
-        number,
-    )?;
-    note(
-        lasts,
-        16,
-        begun_on(Callback::EvtDeviceD0Exit, event),
-        number,
-    )?;
-    note(
-        lasts,
-        17,
-        begun_on(Callback::EvtDeviceD0Exit, event),
-        number,
-    )?;
-    Ok(())
-}
-
-fn note_objects(lasts: &mut Lasts, event: &Event, number: usize) -> Result<(), Memory>
-    ensures { OnOk result ((q : List ℕ) → codes.number_in lasts.new q ≡ codes.noted_objects event.now number q (codes.number_in lasts.old q)) }
-{
-    note(lasts, 18, cleaned(event), number)?;
-    note(lasts, 19, destroyed(event), number)?;
-    note(
-        lasts,
-        20,
-        called(CallKind::WdfObjectReference, event),
-        number,
-    )?;
-    note(
-        lasts,
-        21,
-        called(CallKind::WdfObjectDereference, event),
-        number,
-    )?;
-    Ok(())
-}
-
-fn note_all(lasts: &mut Lasts, event: &Event, number: usize) -> Result<(), Memory>
-    ensures { OnOk result ((q : List ℕ) → codes.number_in lasts.new q ≡ codes.noted_all event.now number q (codes.number_in lasts.old q)) }
-{
-    note_held(lasts, event, number)?;
-    note_queued(lasts, event, number)?;
-    note_cancels(lasts, event, number)?;
-    note_stages(lasts, event, number)?;
-    note_power(lasts, event, number)?;
-    note_objects(lasts, event, number)?;
-    Ok(())
+    [
+        Row::Single(0, arrived(event)),
+        Row::Single(1, completed(event)),
+        Row::Pair(2, taken(event)),
+        Row::Single(3, given_up(event)),
+        Row::Single(4, headed(event)),
+        Row::Single(5, headed(event)),
+        Row::Single(5, tailed(event)),
+        Row::Single(6, acknowledged(event)),
+        Row::Single(7, cancel_posted(event)),
+        Row::Single(8, begun_for(Callback::EvtRequestCancel, event)),
+        Row::Single(9, called_well(CallKind::WdfRequestMarkCancelableEx, event)),
+        Row::Single(10, mark_undone(event)),
+        Row::Single(11, passed_for(Stage::Enabled, event)),
+        Row::Single(12, passed_for(Stage::Disabled, event)),
+        Row::Single(13, passed(Stage::QueuesUp, event)),
+        Row::Single(14, passed(Stage::QueuesDown, event)),
+        Row::Single(15, ended_on(Callback::EvtDeviceD0Entry, true, event)),
+        Row::Single(16, ended_on(Callback::EvtDeviceD0Entry, false, event)),
+        Row::Single(16, begun_on(Callback::EvtDeviceD0Exit, event)),
+        Row::Single(17, begun_on(Callback::EvtDeviceD0Exit, event)),
+        Row::Single(18, cleaned(event)),
+        Row::Single(19, destroyed(event)),
+        Row::Single(20, called(CallKind::WdfObjectReference, event)),
+        Row::Single(21, called(CallKind::WdfObjectDereference, event)),
+    ]
 }
 
 /// Counts one more at an id, if there is one.
@@ -190,13 +108,13 @@ impl Signs {
     ) -> Result<(), Memory>
         requires referenced { (o : ℕ) → maps.number_at self.old.referenced o + 1 < 2 ^ 64 }
         requires dereferenced { (o : ℕ) → maps.number_at self.old.dereferenced o + 1 < 2 ^ 64 }
-        ensures lasts { OnOk result ((q : List ℕ) → codes.number_in self.new.lasts q ≡ codes.noted_all event.now number q (codes.number_in self.old.lasts q)) }
+        ensures lasts { OnOk result ((q : List ℕ) → codes.number_in self.new.lasts q ≡ codes.noted_each (codes.rows_of event.now) number q (codes.number_in self.old.lasts q)) }
         ensures up { OnOk result ((d : ℕ) → get nat_eq self.new.up d ≡ maps.put_at (told.passed stage.QueuesUp event.now) up d (get nat_eq self.old.up d)) }
         ensures enabled { OnOk result ((i : ℕ) → get nat_eq self.new.enabled i ≡ maps.put_at (told.passed_for stage.Enabled event.now) enabled i (get nat_eq self.old.enabled i)) }
         ensures referenced { OnOk result ((o : ℕ) → maps.number_at self.new.referenced o ≡ maps.counted (told.called call.WdfObjectReference event.now) o (maps.number_at self.old.referenced o)) }
         ensures dereferenced { OnOk result ((o : ℕ) → maps.number_at self.new.dereferenced o ≡ maps.counted (told.called call.WdfObjectDereference event.now) o (maps.number_at self.old.dereferenced o)) }
     {
-        note_all(&mut self.lasts, event, number)?;
+        note_each(&mut self.lasts, &rows_of(event), number)?;
         put(&mut self.up, passed(Stage::QueuesUp, event), up)?;
         put(
             &mut self.enabled,
