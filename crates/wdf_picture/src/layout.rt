@@ -5,7 +5,7 @@ use crate::lanes::Lanes;
 use crate::level::declared_at;
 use std::alloc::Global;
 use wdf_base::{Declared, Event, Handle, Memory, ObjectId, Plan};
-use wdf_spans::{FrameBox, Frames, boxes_of, frames_of, requests_of, spans_of};
+use wdf_spans::{FrameBox, Frames, QueuePiece, boxes_of, frames_of, requests_of, spans_of};
 
 /// Past so many events shapes of a pixel or two are merged into blocks.
 pub const MERGED_FROM: u32 = 5_000;
@@ -100,6 +100,39 @@ fn add_devices(
     Ok(())
 }
 
+/// Adds the lanes of the processors and the devices.
+fn add_callbacks(
+    alloc: Global,
+    plan: &Plan,
+    events: &[Event],
+    lanes: &mut Lanes,
+) -> Result<(), Memory>
+    requires { length events.now < 2 ^ 32 }
+{
+    let ran = ran_in(alloc, events)?;
+    add_cpus(alloc, plan, events, &ran, lanes)?;
+    add_devices(alloc, plan, events, &ran, lanes)
+}
+
+/// Adds the lanes of the queues.
+fn add_queues(
+    alloc: Global,
+    plan: &Plan,
+    events: &[Event],
+    pieces: &[QueuePiece],
+    lanes: &mut Lanes,
+) -> Result<(), Memory>
+    requires { length events.now < 2 ^ 32 }
+{
+    for o in 0..plan.declared_len() {
+        if let Some(Declared::Queue(queue)) = declared_at(plan, o + 1) {
+            let object = handle_of(o + 1, queue.name);
+            lanes.queue(alloc, object, queue.device, events, pieces)?;
+        }
+    }
+    Ok(())
+}
+
 /// Adds the lanes of the queues and of the requests.
 fn add_requests(
     alloc: Global,
@@ -110,14 +143,20 @@ fn add_requests(
     requires { length events.now < 2 ^ 32 }
 {
     let requests = requests_of(alloc, plan, events)?;
+    add_queues(alloc, plan, events, requests.queue_pieces(), lanes)?;
     let spans = spans_of(alloc, events, &requests)?;
-    for o in 0..plan.declared_len() {
-        if let Some(Declared::Queue(queue)) = declared_at(plan, o + 1) {
-            let object = handle_of(o + 1, queue.name);
-            lanes.queue(alloc, object, queue.device, events, requests.queue_pieces())?;
-        }
-    }
     lanes.requests(alloc, events.len(), spans.as_slice(), &requests)
+}
+
+/// Adds all lanes of a run, from top to bottom.
+fn add_lanes(alloc: Global, plan: &Plan, events: &[Event], lanes: &mut Lanes) -> Result<(), Memory>
+    requires { length events.now < 2 ^ 32 }
+{
+    lanes.clock(events)?;
+    add_callbacks(alloc, plan, events, lanes)?;
+    add_requests(alloc, plan, events, lanes)?;
+    lanes.columns(events)?;
+    lanes.fault(events)
 }
 
 /// All lanes of a run, from top to bottom.
@@ -129,12 +168,6 @@ pub(crate) fn lanes_of(alloc: Global, plan: &Plan, events: &[Event]) -> Result<L
     requires { length events.now < 2 ^ 32 }
 {
     let mut lanes = Lanes::new(alloc);
-    lanes.clock(events)?;
-    let ran = ran_in(alloc, events)?;
-    add_cpus(alloc, plan, events, &ran, &mut lanes)?;
-    add_devices(alloc, plan, events, &ran, &mut lanes)?;
-    add_requests(alloc, plan, events, &mut lanes)?;
-    lanes.columns(events)?;
-    lanes.fault(events)?;
+    add_lanes(alloc, plan, events, &mut lanes)?;
     Ok(lanes)
 }

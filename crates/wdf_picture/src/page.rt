@@ -226,6 +226,51 @@ fn push_ending(page: &mut Page, told: &Told) -> Result<(), Memory> {
     page.markup(" events")
 }
 
+/// Adds the picture of a run with its lanes, what its marks mean, and the trace.
+fn push_picture(
+    alloc: Global,
+    page: &mut Page,
+    plan: &Plan,
+    events: &[Event],
+    lanes: &Lanes,
+) -> Result<(), Memory>
+    requires { length events.now < 2 ^ 32 }
+{
+    let scale = Scale::of(events.len() as u32);
+    page.markup("<div id=\"tools\" hidden></div>\n<main id=\"run\">\n")?;
+    push_names(page, plan, lanes)?;
+    push_plot(alloc, page, plan, events, &scale, lanes)?;
+    page.markup("</main>\n<p id=\"line\" aria-live=\"polite\"></p>\n")?;
+    push_legend(page)?;
+    push_lines(page, plan, events)?;
+    push_all(page, plan, &scale, lanes.shapes.as_slice())
+}
+
+/// Adds the lanes of a run.
+fn push_run(alloc: Global, page: &mut Page, plan: &Plan, events: &[Event]) -> Result<(), Memory>
+    requires { length events.now < 2 ^ 32 }
+{
+    let lanes = lanes_of(alloc, plan, events)?;
+    push_picture(alloc, page, plan, events, &lanes)
+}
+
+/// Adds the script, and ends the page.
+fn push_end(page: &mut Page) -> Result<(), Memory> {
+    page.markup("<script>\n")?;
+    push_parts(page, &SCRIPT)?;
+    page.markup("</script>\n</body>\n</html>\n")
+}
+
+/// Adds all of the page.
+fn push_page(alloc: Global, page: &mut Page, plan: &Plan, told: &Told) -> Result<(), Memory>
+    requires { length told.now.events.now < 2 ^ 32 }
+{
+    push_head(page, plan, told)?;
+    push_waits(alloc, page, plan, told.waits)?;
+    push_run(alloc, page, plan, told.events)?;
+    push_end(page)
+}
+
 /// The page of a run.
 ///
 /// # Errors
@@ -235,20 +280,7 @@ pub fn html(alloc: Global, plan: &Plan, told: &Told) -> Result<Page, Memory>
     requires { length told.now.events.now < 2 ^ 32 }
 {
     let mut page = Page::new(alloc);
-    let lanes = lanes_of(alloc, plan, told.events)?;
-    let scale = Scale::of(told.events.len() as u32);
-    push_head(&mut page, plan, told)?;
-    push_waits(alloc, &mut page, plan, told.waits)?;
-    page.markup("<div id=\"tools\" hidden></div>\n<main id=\"run\">\n")?;
-    push_names(&mut page, plan, &lanes)?;
-    push_plot(alloc, &mut page, plan, told.events, &scale, &lanes)?;
-    page.markup("</main>\n<p id=\"line\" aria-live=\"polite\"></p>\n")?;
-    push_legend(&mut page)?;
-    push_lines(&mut page, plan, told.events)?;
-    push_all(&mut page, plan, &scale, lanes.shapes.as_slice())?;
-    page.markup("<script>\n")?;
-    push_parts(&mut page, &SCRIPT)?;
-    page.markup("</script>\n</body>\n</html>\n")?;
+    push_page(alloc, &mut page, plan, told)?;
     Ok(page)
 }
 
