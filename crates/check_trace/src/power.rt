@@ -29,19 +29,10 @@ fn is_enabled_in_power(past: &Past, interrupt: u32, device: u32) -> bool
             || past.was_enabled_entered(interrupt, device))
 }
 
-fn takes_interrupt_lock(callback: Callback) -> bool
-    ensures { result ≡ laws.takes_interrupt_lock callback }
-{
-    matches!(
-        callback,
-        Callback::EvtInterruptIsr | Callback::EvtInterruptEnable | Callback::EvtInterruptDisable
-    )
-}
-
 fn is_with_interrupt(interrupt: u32, begun: &Begun) -> bool
     ensures { result ≡ laws.is_with_interrupt interrupt begun.now }
 {
-    takes_interrupt_lock(begun.callback) && begun.object == interrupt
+    begun.callback.takes_interrupt_lock() && begun.object == interrupt
 }
 
 fn any_with_interrupt(interrupt: u32, begun: &[Begun]) -> bool
@@ -92,7 +83,7 @@ fn enable_row(past: &Past, callback: Callback, device: u32) -> bool
 fn alone_row(frames: &Frames, callback: Callback, level: u8, cpu: u8, interrupt: u32) -> bool
     ensures { result ≡ laws.alone_row frames.now callback level cpu interrupt }
 {
-    !takes_interrupt_lock(callback) || is_alone(frames, level, cpu, interrupt)
+    !callback.takes_interrupt_lock() || is_alone(frames, level, cpu, interrupt)
 }
 
 fn interrupt_rows(

@@ -25,6 +25,7 @@ use Rattle.wdf_base.specs.declared.object.RequestForm.{RequestForm}
 use Rattle.wdf_base.specs.declared.object.RequestForm.TheVariants as form
 use Rattle.wdf_base.specs.declared.object.RequestInfo.{RequestInfo}
 use Rattle.wdf_base.specs.declared.value.Status.{Status}
+use Rattle.wdf_base.specs.Posts.{is_request}
 use Rattle.wdf_model.specs.declared.deed.Deed.{Deed}
 use Rattle.wdf_model.specs.declared.deed.Deed.TheVariants.{Arrive, AskDeletion, CloseDevice, CloseReturning, CompleteRequest, CountArrival, Forward, GiveBack, MakeRequest, PurgeQueue, Requeue, SendRequest}
 use Rattle.wdf_model.specs.declared.entries.DeviceAction.{DeviceAction}
@@ -53,7 +54,7 @@ use Rattle.wdf_dev.specs.declared.any.AnyAgent.{AnyAgent}
 use Rattle.wdf_dev.specs.declared.any.AnyAgent.TheVariants as agent
 use Rattle.law_machine_base.proofs.Follows.{follows, state_goes_on}
 use Rattle.law_machine_base.proofs.KeptByDeeds.{is_arrival}
-use Rattle.law_machine_deeds.specs.MayDo.{is_request, may_do, posts}
+use Rattle.law_machine_deeds.specs.MayDo.{may_do, posts}
 use Rattle.law_machine_deeds.proofs.Passing.{event_passes}
 use Rattle.law_stuck_causes.proofs.Endings.{at_the_end}
 use Rattle.law_at_rest.proofs.Agents.{AllHave, agents_after, told_as}

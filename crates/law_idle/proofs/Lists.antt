@@ -13,9 +13,9 @@ use Rattle.wdf_base.specs.declared.event.Stage.TheVariants as stage
 use Rattle.wdf_base.specs.declared.event.Step.{Step}
 use Rattle.wdf_base.specs.declared.event.Step.TheVariants as step
 use Rattle.wdf_base.specs.Same.{same_callback}
+use Rattle.wdf_base.specs.Callbacks.{is_query}
 use Rattle.wdf_model.specs.declared.enums.Phase.{Phase}
 use Rattle.wdf_model.specs.declared.enums.Phase.TheVariants.{Off, Working, Sleeping, Removed}
-use Rattle.wdf_model.specs.agents.IdlePolicy.{is_query}
 use Rattle.wdf_model.specs.parts.Pnp.{DeviceSteps, InterruptSteps, disable_steps, down_steps, enable_steps, end_steps, flush_steps, hard_steps, pass, quiet_steps, run, run_if, self_managed_start, steps_for, tail_steps, up_steps}
 use Rattle.law_idle.specs.Resting.{has_query, is_end, is_query_step, is_rest_step, is_tidy}
 

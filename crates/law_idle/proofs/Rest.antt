@@ -16,7 +16,7 @@ use Rattle.wdf_base.specs.declared.event.Stage.{Stage}
 use Rattle.wdf_base.specs.declared.event.Stage.TheVariants as stage
 use Rattle.wdf_base.specs.declared.event.Step.{Step}
 use Rattle.wdf_base.specs.declared.event.Step.TheVariants as step
-use Rattle.wdf_base.specs.Callbacks.{row_of}
+use Rattle.wdf_base.specs.Callbacks.{is_query, row_of}
 use Rattle.wdf_base.specs.Same.{same_callback}
 use Rattle.wdf_base.specs.Lives.{is_gone}
 use Rattle.wdf_model.specs.declared.enums.Phase.{Phase}
@@ -25,7 +25,7 @@ use Rattle.wdf_model.specs.parts.Tree.{life_of, nearest_device}
 use Rattle.wdf_model.specs.parts.Pnp.{Sequence, busy, is_running_step, is_success, left_after, left_after_failure, no_sequence, sequence_of, steps_for, steps_left, taken_step}
 use Rattle.wdf_model.specs.parts.Pnp as pnp
 use Rattle.wdf_model.specs.State.{State}
-use Rattle.wdf_model.specs.agents.IdlePolicy.{ends_asleep, ends_awake, is_query}
+use Rattle.wdf_model.specs.agents.IdlePolicy.{ends_asleep, ends_awake}
 use Rattle.wdf_model.proofs.Counts.{equal, not_equal, one_or_two}
 use Rattle.wdf_model.proofs.Maps.{entry_put_other, entry_put_same}
 use Rattle.wdf_model.proofs.Tests.{either_false, not_false}

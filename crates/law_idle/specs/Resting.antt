@@ -5,10 +5,10 @@ use Rattle.wdf_base.specs.declared.event.Stage.{Stage}
 use Rattle.wdf_base.specs.declared.event.Stage.TheVariants as stage
 use Rattle.wdf_base.specs.declared.event.Step.{Step}
 use Rattle.wdf_base.specs.declared.event.Step.TheVariants as step
+use Rattle.wdf_base.specs.Callbacks.{is_query}
 use Rattle.wdf_model.specs.declared.enums.Phase.{Phase}
 use Rattle.wdf_model.specs.declared.enums.Phase.TheVariants.{Sleeping}
 use Rattle.wdf_model.specs.parts.Pnp.{Sequence}
-use Rattle.wdf_model.specs.agents.IdlePolicy.{is_query}
 use Rattle.law_trace_power.specs.Steps.{is_working}
 use Rattle.law_idle.specs.Idling.{Rest}
 

@@ -45,7 +45,7 @@ use Rattle.law_lint.proofs.Events.{answered_rest, goes_on_frames, top_there, tol
 use Rattle.law_lint.proofs.Faults.{Calls, calls, rule_off}
 use Rattle.law_lint.proofs.Answers.{CallWent, call_went}
 use Rattle.wdf_base.specs.declared.event.Fault.TheVariants as fault
-use Rattle.wdf_model.specs.rules.Faults.{is_acquire, is_release}
+use Rattle.wdf_base.specs.Calls.{is_acquire, is_release}
 use Rattle.wdf_lint.specs.Steps.{called}
 use Rattle.law_free_runs.proofs.FreeStates.{FreeState}
 use Rattle.law_lint.proofs.Began.{Alike, Began, began_alike}

@@ -13,6 +13,7 @@ use Rattle.wdf_base.specs.declared.event.Post.{Post}
 use Rattle.wdf_base.specs.declared.event.Stage.{Stage}
 use Rattle.wdf_base.specs.declared.event.Step.TheVariants as step
 use Rattle.wdf_base.specs.Places.{is_closing, is_owned}
+use Rattle.wdf_base.specs.Calls.{is_acquire}
 use Rattle.wdf_model.specs.Ids.{object_id}
 use Rattle.wdf_model.specs.parts.Cpus.{Cpus, all_frames, frame_of}
 use Rattle.wdf_model.specs.parts.Requests.{place_of, request_of}
@@ -37,7 +38,6 @@ use Rattle.law_lint.proofs.Owning.{Calms, has_origin}
 use Rattle.law_lint.proofs.Resting.{deeds_flags}
 use Rattle.law_lint.proofs.StageCalms.{stage_calms}
 use Rattle.law_machine_deeds.specs.MayDo.{is_start, releasing, second_part}
-use Rattle.wdf_model.specs.rules.Faults.{is_acquire}
 use Rattle.law_lint.proofs.Events.{told}
 use Rattle.law_lint.proofs.Holdings.{event_left, left_same}
 use Rattle.law_lint.proofs.Stands.{Stands, fewer_stand}

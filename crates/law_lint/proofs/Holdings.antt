@@ -6,6 +6,7 @@ use Rattle.wdf_base.specs.declared.plan.Plan.{Plan}
 use Rattle.wdf_base.specs.declared.object.LockRef.{LockRef}
 use Rattle.wdf_base.specs.declared.event.Event.{Event}
 use Rattle.wdf_base.specs.Same.{same_lock}
+use Rattle.wdf_base.specs.Calls.{is_acquire}
 use Rattle.wdf_model.specs.declared.entries.Held.{Held}
 use Rattle.wdf_model.specs.Tables.{flag}
 use Rattle.wdf_model.specs.parts.Locks.{Locks, held_by_call, holds_by_call, object_lock}
@@ -14,7 +15,6 @@ use Rattle.wdf_model.specs.State.{State}
 use Rattle.wdf_model.specs.declared.deed.Deed.{Deed}
 use Rattle.wdf_model.specs.declared.deed.Deed.TheVariants.{ReleaseLock, TakeLock}
 use Rattle.wdf_model.specs.rules.Deeds.{do_deed, do_deeds}
-use Rattle.wdf_model.specs.rules.Faults.{is_acquire}
 use Rattle.wdf_model.specs.rules.Starts.{take_if_any}
 use Rattle.wdf_model.specs.rules.Steps.{deeds}
 use Rattle.wdf_model.proofs.Counts.{count_behind, count_cons, count_of_one, equal, filter_less, not_equal, one_or_two}

@@ -21,7 +21,7 @@ use Rattle.wdf_base.specs.declared.frame.Intent.{Intent}
 use Rattle.wdf_base.specs.declared.frame.Intent.TheVariants as intent
 use Rattle.wdf_base.specs.declared.rank.CallbackLock.{CallbackLock}
 use Rattle.wdf_base.specs.declared.rank.CallbackLock.TheVariants as callback_lock
-use Rattle.wdf_base.specs.Callbacks.{row_of}
+use Rattle.wdf_base.specs.Callbacks.{row_of, takes_interrupt_lock}
 use Rattle.wdf_base.specs.Same.{same_lock}
 use Rattle.wdf_model.specs.declared.entries.Held.{Held}
 use Rattle.wdf_model.specs.Tables.{contains}
@@ -29,7 +29,7 @@ use Rattle.wdf_model.specs.Plans.{scope_lock, serial_lock, scope_lock_of_device,
 use Rattle.wdf_model.specs.parts.Cpus.{frame_of}
 use Rattle.wdf_model.specs.parts.Locks.{holder, object_lock, own_lock, parent_lock, scope_needed}
 use Rattle.wdf_model.specs.State.{State, declared_in, object_in}
-use Rattle.wdf_model.specs.rules.Faults.{View, call_faults, fault_of, holds_lock, holds_of, is_acquire, is_release, is_fault_of_access, is_fault_of_return, is_script_fault}
+use Rattle.wdf_model.specs.rules.Faults.{View, call_faults, fault_of, holds_lock, holds_of, is_fault_of_access, is_fault_of_return, is_script_fault}
 use Rattle.wdf_model.specs.rules.Script.{intent_of, statement_at}
 use Rattle.wdf_model.specs.rules.Steps.{view_of}
 use Rattle.wdf_model.proofs.Counts.{equal}
@@ -43,7 +43,7 @@ use Rattle.wdf_lint.specs.declared.state.Abstract.{Abstract}
 use Rattle.wdf_lint.specs.declared.state.HeldLock.{HeldLock}
 use Rattle.wdf_lint.specs.declared.state.HeldLock.TheVariants as lock
 use Rattle.wdf_lint.specs.Abstracts.{callback_of, id_of, owner_of}
-use Rattle.wdf_lint.specs.Steps.{interrupt_in, is_free, is_in, is_of_interrupt, is_own_lock, node_of, rule_of_acquiring, rule_of_acquiring_at, rule_of_call, rule_of_releasing, rule_of_releasing_at, takes_own_lock, variable_in}
+use Rattle.wdf_lint.specs.Steps.{interrupt_in, is_free, is_in, is_of_interrupt, is_own_lock, node_of, rule_of_acquiring, rule_of_acquiring_at, rule_of_call, rule_of_releasing, rule_of_releasing_at, variable_in}
 use Rattle.wdf_lint.specs.Walks.{IsClean}
 use Rattle.law_free_runs.specs.FreeRuns.{IsFreeRun}
 use Rattle.law_free_runs.proofs.FreeStates.{FreeState}
@@ -65,6 +65,7 @@ use Rattle.wdf_base.specs.declared.object.LockRef.{LockRef}
 use Rattle.wdf_base.specs.declared.object.LockRef.TheVariants as lock_of
 use Rattle.wdf_base.specs.declared.declared.Scope.{Scope}
 use Rattle.wdf_base.specs.Plan.{declared_of}
+use Rattle.wdf_base.specs.Calls.{is_acquire, is_release}
 use Rattle.law_machine_counts.proofs.StepTable.{top_is}
 
 -- ---- the first fault of a call
@@ -161,7 +162,7 @@ own_of plan callback_lock.NoLock o x d h = absurd (let z : ⊥ = cc in z)
 own_of plan callback_lock.ParentScope o x d h = absurd (parent_other plan d x h)
 own_of plan callback_lock.QueueLock o x d h = absurd (scope_other plan o d x h)
 
-takes_it : (c : Callback) → is_interrupt_lock (row_of c).lock ≡ true → (takes_own_lock c ≡ true) × (is_of_interrupt (row_of c).owner ≡ true)
+takes_it : (c : Callback) → is_interrupt_lock (row_of c).lock ≡ true → (takes_interrupt_lock c ≡ true) × (is_of_interrupt (row_of c).owner ≡ true)
 takes_it callback.EvtInterruptIsr h = (refl, refl)
 takes_it callback.EvtInterruptEnable h = (refl, refl)
 takes_it callback.EvtInterruptDisable h = (refl, refl)
@@ -227,7 +228,7 @@ module _ {A : Type 0} (plan : Plan) (S : State A) (cpu f : ℕ) (a : Abstract) (
       let b = fs.began.interrupt resolved t.1 in
       let id : id_of plan (owner_of plan frame.script) ≡ x = sym b.0 ∙ o.1 in (
         subst (λ y. is_interrupt plan y ≡ true) o.1 b.1,
-        both (takes_own_lock (callback_of plan frame.script)) (id_of plan (owner_of plan frame.script) == x) (ap takes_own_lock fs.began.callback ∙ t.0) (equal (id_of plan (owner_of plan frame.script)) x id),
+        both (takes_interrupt_lock (callback_of plan frame.script)) (id_of plan (owner_of plan frame.script) == x) (ap takes_interrupt_lock fs.began.callback ∙ t.0) (equal (id_of plan (owner_of plan frame.script)) x id),
       )
 
   -- where it is the holder, it has the lock by a call or since its start

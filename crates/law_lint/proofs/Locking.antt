@@ -14,7 +14,7 @@ use Rattle.wdf_model.specs.parts.Locks.{Locks, holds_by_call, object_lock}
 use Rattle.wdf_model.specs.parts.Locks as locks
 use Rattle.wdf_model.specs.State.{State, object_in}
 use Rattle.wdf_model.specs.rules.Deeds.{do_deeds}
-use Rattle.wdf_model.specs.rules.Faults.{call_faults, is_acquire, is_release}
+use Rattle.wdf_model.specs.rules.Faults.{call_faults}
 use Rattle.wdf_model.specs.rules.Steps.{did_deeds, view_of, woke_deeds}
 use Rattle.wdf_model.proofs.Tests.{not_false}
 use Rattle.wdf_lint.specs.declared.state.Abstract.{Abstract}
@@ -37,7 +37,7 @@ use Rattle.wdf_base.specs.declared.script.ExprNode.TheVariants as node
 use Rattle.wdf_base.specs.declared.signature.Sort.TheVariants as sort
 use Rattle.wdf_base.specs.declared.value.Value.TheVariants.{Num}
 use Rattle.wdf_base.specs.Callbacks.{row_of}
-use Rattle.wdf_base.specs.Calls.{signature_of}
+use Rattle.wdf_base.specs.Calls.{is_acquire, is_release, signature_of}
 use Rattle.wdf_base.specs.Kinds.{declared_kind}
 use Rattle.wdf_base.specs.Lives.{is_past_cleanup}
 use Rattle.wdf_base.specs.Plan.{declared_of}

@@ -31,7 +31,7 @@ use Rattle.wdf_model.specs.rules.Posts.{arrival_info, arrival_place, is_data, pl
 use Rattle.wdf_model.specs.rules.Steps.{after, deeds, may}
 use Rattle.wdf_model.proofs.Tests.{both, both_left, both_right}
 use Rattle.law_machine_base.proofs.FitsOfEvents.{event_fits}
-use Rattle.law_machine_deeds.specs.MayDo.{calls, is_request, may_do, posts}
+use Rattle.law_machine_deeds.specs.MayDo.{calls, may_do, posts}
 use Rattle.law_machine_deeds.proofs.Passing.{event_passes}
 use Rattle.law_machine_deeds.proofs.Walk.{all_pass, event_may}
 use Rattle.law_machine_counts.proofs.StepStates.{StepsIn}
@@ -73,6 +73,7 @@ use Rattle.law_free_runs.proofs.FreeStates.{FreeState, event_state, opening_stat
 use Rattle.wdf_base.specs.declared.object.RequestForm.TheVariants as form
 use Rattle.wdf_base.specs.Lives.{is_live}
 use Rattle.wdf_base.specs.Places.{is_sent}
+use Rattle.wdf_base.specs.Posts.{is_request}
 use Rattle.law_machine_base.proofs.OwnEvents.{waiting_tells}
 use Rattle.law_lint.proofs.Begins.{start_stands}
 use Rattle.law_lint.proofs.Acknowledging.{stop_asks, stop_none, stop_stands}

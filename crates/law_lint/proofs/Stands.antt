@@ -8,6 +8,7 @@ use Rattle.wdf_base.specs.declared.call.CallKind.TheVariants as call
 use Rattle.wdf_base.specs.declared.frame.Frame.{Frame}
 use Rattle.wdf_base.specs.declared.frame.Pending.{Pending}
 use Rattle.wdf_base.specs.declared.frame.Intent.TheVariants as intent
+use Rattle.wdf_base.specs.Calls.{is_release}
 use Rattle.wdf_model.specs.parts.Cpus.{frame_of}
 use Rattle.wdf_model.specs.parts.Requests.{Requests, request_of}
 use Rattle.wdf_model.specs.State.{State, object_in}
@@ -16,7 +17,6 @@ use Rattle.wdf_model.proofs.Counts.{equal, not_equal, one_or_two}
 use Rattle.wdf_lint.specs.declared.state.Abstract.{Abstract}
 use Rattle.wdf_lint.specs.Steps.{is_own_or_marked, steps}
 use Rattle.wdf_lint.specs.Walks.{IsIn, IsReached}
-use Rattle.wdf_model.specs.rules.Faults.{is_release}
 use Rattle.law_lint.proofs.Began.{Alike, Began, alike_itself, began_alike}
 use Rattle.law_lint.proofs.HeldAs.{HeldAs, held_assigned, held_later}
 use Rattle.law_lint.proofs.Holdings.{Left, left_same}

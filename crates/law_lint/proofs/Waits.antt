@@ -51,8 +51,8 @@ use Rattle.law_machine_base.proofs.OwnEvents.{IsEnd, IsWaiting, end_tells, waiti
 use Rattle.wdf_model.proofs.Maps.{entry_put_other}
 use Rattle.std.proofs.lemmas.Bool.Decides.{nat_tests}
 use Rattle.wdf_base.specs.declared.event.Fault.TheVariants as fault
+use Rattle.wdf_base.specs.Calls.{is_release}
 use Rattle.wdf_model.specs.parts.Locks.{held_by_call}
-use Rattle.wdf_model.specs.rules.Faults.{is_release}
 use Rattle.law_free_runs.proofs.FreeStates.{FreeState}
 use Rattle.law_machine_lives.proofs.Sound.{lock_of_frame}
 use Rattle.law_lint.proofs.Began.{Alike, began_alike}

@@ -14,6 +14,7 @@ use Rattle.wdf_base.specs.declared.frame.Frame.{Frame}
 use Rattle.wdf_base.specs.declared.frame.Pending.{Pending}
 use Rattle.wdf_base.specs.Callbacks.{row_of}
 use Rattle.wdf_base.specs.Places.{is_queued_in, is_sent_to}
+use Rattle.wdf_base.specs.Calls.{is_acquire}
 use Rattle.wdf_model.specs.declared.entries.Held.{Held}
 use Rattle.wdf_model.specs.Tables.{contains, ids_of}
 use Rattle.wdf_model.specs.Plans.{declared_ids, devices_of, is_managed, managed_queues}
@@ -25,7 +26,6 @@ use Rattle.wdf_model.specs.parts.Pnp.{is_running_step}
 use Rattle.wdf_model.specs.parts.Targets.{the_target}
 use Rattle.wdf_model.specs.State.{State, held_from, is_with_driver, object_in}
 use Rattle.wdf_model.specs.rules.Calls.{lock_level}
-use Rattle.wdf_model.specs.rules.Faults.{is_acquire}
 
 -- ---- the level of a processor, by the locks that its top frame holds or spins for; 0 where no frame is (KMDF)
 

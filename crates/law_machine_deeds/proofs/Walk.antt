@@ -29,6 +29,7 @@ use Rattle.wdf_base.specs.declared.frame.Frame.{Frame}
 use Rattle.wdf_base.specs.Callbacks.{row_of}
 use Rattle.wdf_base.specs.declared.call.Callback.TheVariants as callback
 use Rattle.wdf_base.specs.Lives.{is_live}
+use Rattle.wdf_base.specs.Posts.{is_request}
 use Rattle.wdf_model.specs.Tables.{flag}
 use Rattle.wdf_model.specs.Ids.{cpu_of, frame_id, irql_of, object_id}
 use Rattle.wdf_model.specs.rules.Script.{intent_of}
@@ -51,7 +52,7 @@ use Rattle.wdf_model.specs.rules.Starts.{effect, effect_for, end_of_step, new_fr
 use Rattle.wdf_model.specs.rules.Posts.{arrival_info, arrival_place, cancel_at, cancel_deeds, in_reach, post_deeds}
 use Rattle.wdf_model.specs.rules.Steps.{answered, deeds, did_deeds, goes_on, spending, stepped, waiting, waiting_deeds, woke_deeds}
 use Rattle.wdf_model.proofs.Tests.{alone, both, both_left, both_right}
-use Rattle.law_machine_deeds.specs.MayDo.{gives_back, gives_to_head, is_request, makes_objects, may_do, posts}
+use Rattle.law_machine_deeds.specs.MayDo.{gives_back, gives_to_head, makes_objects, may_do, posts}
 
 abbrev pub all_may : Event → List Deed → Bool
 all_may e ds = list_all (may_do e) ds

@@ -12,10 +12,11 @@ use Rattle.wdf_base.specs.declared.rank.Rank.{Rank}
 use Rattle.wdf_base.specs.declared.rank.Rank.TheVariants as rank
 use Rattle.wdf_base.specs.Callbacks.{rank_number, row_of}
 use Rattle.wdf_base.specs.Same.{same_call_kind, same_stage}
+use Rattle.wdf_base.specs.Calls.{is_acquire, is_release}
+use Rattle.wdf_base.specs.Posts.{is_request}
 use Rattle.wdf_model.specs.declared.deed.Deed.{Deed}
 use Rattle.wdf_model.specs.declared.deed.Deed.TheVariants as deed
 use Rattle.law_machine_base.specs.Agreement.{is_sequence}
-use Rattle.wdf_model.specs.rules.Faults.{is_acquire, is_release}
 
 -- ---- kinds of calls
 
@@ -143,12 +144,6 @@ is_destruction _ = false
 abbrev pub is_tick : Event → Bool
 is_tick (event.Tick time) = true
 is_tick _ = false
-
-abbrev pub is_request : Post → Bool
-is_request (post.Read device length) = true
-is_request (post.Write device length) = true
-is_request (post.Control device code length) = true
-is_request _ = false
 
 abbrev pub is_cancel : Post → Bool
 is_cancel (post.Cancel k) = true

@@ -27,7 +27,7 @@ use Rattle.wdf_base.specs.declared.rank.Owner.TheVariants as owner
 use Rattle.wdf_base.specs.declared.script.Script.{Script}
 use Rattle.wdf_base.specs.declared.signature.Sort.TheVariants as sort
 use Rattle.wdf_base.specs.Callbacks.{row_of}
-use Rattle.wdf_base.specs.Calls.{signature_of}
+use Rattle.wdf_base.specs.Calls.{is_acquire, signature_of}
 use Rattle.wdf_base.specs.Kinds.{class_kind}
 use Rattle.wdf_base.specs.Plan.{is_script_of}
 use Rattle.wdf_base.specs.Same.{same_callback, same_kind, same_option}
@@ -45,7 +45,7 @@ use Rattle.wdf_model.specs.Ids.{frame_id}
 use Rattle.wdf_model.specs.declared.deed.Deed.{Deed}
 use Rattle.wdf_model.specs.declared.deed.Deed.TheVariants.{GoOn}
 use Rattle.wdf_model.specs.rules.Deeds.{do_deed, do_deeds}
-use Rattle.wdf_model.specs.rules.Faults.{is_acquire, is_stale, is_wrong_kind}
+use Rattle.wdf_model.specs.rules.Faults.{is_stale, is_wrong_kind}
 use Rattle.wdf_model.specs.rules.Calls.{is_met_then, level_of_kind, outcome, second_deeds}
 use Rattle.wdf_model.specs.rules.Steps.{answered, did_deeds, view_of, waiting, waiting_deeds, woke_deeds}
 use Rattle.law_machine_base.specs.Fits.{all_fit}

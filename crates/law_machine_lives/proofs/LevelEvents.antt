@@ -22,7 +22,7 @@ use Rattle.wdf_base.specs.declared.object.Life.TheVariants as life
 use Rattle.wdf_base.specs.declared.object.LockRef.{LockRef}
 use Rattle.wdf_base.specs.declared.script.Statement.{Statement}
 use Rattle.wdf_base.specs.declared.signature.Sort.TheVariants as sort
-use Rattle.wdf_base.specs.Calls.{signature_of}
+use Rattle.wdf_base.specs.Calls.{is_acquire, signature_of}
 use Rattle.wdf_base.specs.Same.{same_event, same_option}
 use Rattle.wdf_base.specs.Lives.{is_cleaned, is_gone, is_past_cleanup}
 use Rattle.wdf_model.specs.parts.Tree.{Tree}
@@ -33,7 +33,7 @@ use Rattle.wdf_model.specs.Ids.{frame_id}
 use Rattle.wdf_model.specs.declared.deed.Deed.{Deed}
 use Rattle.wdf_model.specs.declared.deed.Deed.TheVariants.{GoOn}
 use Rattle.wdf_model.specs.rules.Deeds.{do_deed, do_deeds}
-use Rattle.wdf_model.specs.rules.Faults.{View, any_argument, is_acquire, is_stale, is_wrong_kind}
+use Rattle.wdf_model.specs.rules.Faults.{View, any_argument, is_stale, is_wrong_kind}
 use Rattle.wdf_model.specs.rules.Calls.{is_met}
 use Rattle.wdf_model.specs.rules.Steps.{at_next, changed, event_of_frame, event_of_top, own_event, spends, stepped}
 use Rattle.law_machine_base.specs.Fits.{all_fit}

@@ -13,6 +13,7 @@ use Rattle.wdf_base.specs.declared.object.LockRef.TheVariants as lock
 use Rattle.wdf_base.specs.Callbacks.{row_of}
 use Rattle.wdf_base.specs.Same.{same_kind, same_lock}
 use Rattle.wdf_base.specs.Lives.{is_past_cleanup}
+use Rattle.wdf_base.specs.Calls.{is_acquire}
 use Rattle.wdf_model.specs.declared.entries.Held.{Held}
 use Rattle.wdf_model.specs.declared.entries.Running.{Running}
 use Rattle.wdf_model.specs.Tables.{flag}
@@ -24,7 +25,6 @@ use Rattle.wdf_model.specs.parts.Locks.{Locks, lock_of_callback}
 use Rattle.wdf_model.specs.parts.Locks as locks
 use Rattle.wdf_model.specs.State.{object_in}
 use Rattle.wdf_model.specs.rules.Calls.{level_of_kind}
-use Rattle.wdf_model.specs.rules.Faults.{is_acquire}
 use Rattle.wdf_model.proofs.Maps.{entry_put_other, entry_put_same}
 use Rattle.wdf_model.proofs.Counts.{equal, not_equal, one_or_two}
 use Rattle.law_machine_counts.proofs.FrameMoves.{FrameKept, kept_same}

@@ -25,6 +25,7 @@ use Rattle.wdf_base.specs.declared.rank.CallbackLock.TheVariants as callback_loc
 use Rattle.wdf_base.specs.Callbacks.{row_of}
 use Rattle.wdf_base.specs.Plan.{declared_of}
 use Rattle.wdf_base.specs.Same.{same_kind}
+use Rattle.wdf_base.specs.Calls.{is_acquire}
 use Rattle.wdf_model.proofs.Tests.{all_three, both_left, both_right}
 use Rattle.wdf_model.specs.declared.entries.Held.{Held}
 use Rattle.wdf_model.specs.declared.entries.HeldLevel.{HeldLevel}
@@ -35,7 +36,6 @@ use Rattle.wdf_model.specs.parts.Cpus.{frame_level, frame_of, irql, levels_of, r
 use Rattle.wdf_model.specs.parts.Locks.{lock_of_callback, own_lock, parent_lock, scope_needed}
 use Rattle.wdf_model.specs.State.{State, declared_in, object_in}
 use Rattle.wdf_model.specs.rules.Calls.{level_of_kind, lock_level}
-use Rattle.wdf_model.specs.rules.Faults.{is_acquire}
 use Rattle.wdf_model.specs.rules.Ready.{IsRunOf, state_after}
 use Rattle.law_machine_base.specs.Agreement.{level_awaited, level_by_locks, level_of_lock, levels_agree, levels_held}
 use Rattle.wdf_model.proofs.Counts.{count_behind, count_cons, equal, not_equal, one_or_two}

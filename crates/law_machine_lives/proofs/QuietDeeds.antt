@@ -9,11 +9,11 @@ use Rattle.wdf_base.specs.declared.call.CallKind.{CallKind}
 use Rattle.wdf_base.specs.declared.call.Callback.{Callback}
 use Rattle.wdf_base.specs.declared.event.Post.{Post}
 use Rattle.wdf_base.specs.declared.event.Stage.{Stage}
+use Rattle.wdf_base.specs.Calls.{is_acquire, is_release}
 use Rattle.wdf_model.specs.State.{State}
 use Rattle.wdf_model.specs.declared.deed.Deed.{Deed}
 use Rattle.wdf_model.specs.declared.deed.Deed.TheVariants.{GoOn, Lower, ParkFrame, PopFrame, PushFrame, Raise, ReleaseLock, TakeLock, UnparkFrame}
 use Rattle.wdf_model.specs.rules.Calls.{outcome}
-use Rattle.wdf_model.specs.rules.Faults.{is_acquire, is_release}
 use Rattle.wdf_model.specs.rules.Posts.{post_deeds}
 use Rattle.wdf_model.specs.rules.Starts.{stage_effect, start_effect}
 use Rattle.wdf_model.proofs.Tests.{either_false}

@@ -13,6 +13,7 @@ use Rattle.wdf_base.specs.declared.object.LockRef.TheVariants as lock
 use Rattle.wdf_base.specs.declared.frame.Pending.{Pending}
 use Rattle.wdf_base.specs.Same.{same_kind, same_lock}
 use Rattle.wdf_base.specs.Lives.{is_cleaned, is_live, is_past_cleanup}
+use Rattle.wdf_base.specs.Calls.{is_acquire}
 use Rattle.wdf_model.specs.declared.entries.Held.{Held}
 use Rattle.wdf_model.specs.declared.entries.Node.{Node}
 use Rattle.wdf_model.specs.Tables.{flag}
@@ -26,7 +27,6 @@ use Rattle.wdf_model.specs.declared.deed.Deed.{Deed}
 use Rattle.wdf_model.specs.declared.deed.Deed.TheVariants.{Create, MakeRequest, Arrive, AskDeletion, Refer, Unrefer, WriteCell, Note, CleanUp, EndLife, PushFrame, GoOn, PopFrame, ParkFrame, UnparkFrame, Raise, Lower, TakeLock, ReleaseLock, CompleteRequest}
 use Rattle.wdf_model.specs.rules.Deeds.{ask_object, do_deed, do_deeds, give_up}
 use Rattle.wdf_model.specs.rules.Calls.{level_of_kind}
-use Rattle.wdf_model.specs.rules.Faults.{is_acquire}
 use Rattle.wdf_model.specs.rules.Starts.{clean_ready, destroy_ready}
 use Rattle.law_machine_base.specs.Fits.{all_fit, fits}
 use Rattle.wdf_model.proofs.Tests.{both_left, both_right, first, not_false, not_true, second}

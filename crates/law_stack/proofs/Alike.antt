@@ -5,10 +5,11 @@ use Rattle.std.proofs.lemmas.Bool.{eqb-true}
 use Rattle.wdf_base.specs.declared.ids.Handle.{Handle}
 use Rattle.wdf_base.specs.declared.value.Status.{Status}
 use Rattle.wdf_base.specs.declared.event.Event.{Event}
+use Rattle.wdf_base.specs.Posts.{is_request}
 use Rattle.wdf_model.specs.declared.stack.Descent.{Descent}
 use Rattle.wdf_model.specs.declared.stack.Descent.TheVariants as descent
 use Rattle.wdf_model.specs.declared.stack.Forwarded.{Forwarded}
-use Rattle.wdf_model.specs.agents.Connector.{arrived_below, cancelled_any, cancelled_one, completed_at, completed_one, first_arrived, is_request, is_waiting, passed_on_at, passed_on_one}
+use Rattle.wdf_model.specs.agents.Connector.{arrived_below, cancelled_any, cancelled_one, completed_at, completed_one, first_arrived, is_waiting, passed_on_at, passed_on_one}
 use Rattle.wdf_laws.specs.Events.{id_in}
 use Rattle.law_stack.specs.Words.{Passing, cancelled_if, completes_with, has_no_arrival, with_arrival, with_cancel, without_done}
 

@@ -19,6 +19,7 @@ use Rattle.wdf_base.specs.declared.event.Event.{Event}
 use Rattle.wdf_base.specs.declared.event.Event.TheVariants as event
 use Rattle.wdf_base.specs.Places.{is_sent_to}
 use Rattle.wdf_base.specs.Same.{same_option, same_post, same_value}
+use Rattle.wdf_base.specs.Posts.{is_request}
 use Rattle.wdf_model.specs.Tables.{flag}
 use Rattle.wdf_model.specs.Plans.{first_device_agent, target_of_agent}
 use Rattle.wdf_model.specs.parts.Requests.{place_of}
@@ -27,7 +28,7 @@ use Rattle.wdf_model.specs.State.{State, is_proper, object_in}
 use Rattle.wdf_model.specs.rules.Posts.{ARRIVALS, due_of, may_finish, post_fits}
 use Rattle.wdf_model.specs.rules.Faults.{arg_is}
 use Rattle.wdf_model.specs.rules.Steps.{after, deeds, may}
-use Rattle.wdf_model.specs.agents.Connector.{Connector, arrival_own, arrival_posted, arrival_taken, cancelled_if_any, completed_by, connector_after, connector_called, connector_posted, is_request, keep_arrival, request_lines, with_sent}
+use Rattle.wdf_model.specs.agents.Connector.{Connector, arrival_own, arrival_posted, arrival_taken, cancelled_if_any, completed_by, connector_after, connector_called, connector_posted, keep_arrival, request_lines, with_sent}
 use Rattle.wdf_model.specs.agents.LowerTarget.{handle_in_arg}
 use Rattle.wdf_model.specs.agents.StackAgent as stack
 use Rattle.wdf_model.specs.agents.StackAgent.{StackAgent}

@@ -10,12 +10,13 @@ use Rattle.wdf_base.specs.declared.event.Post.{Post}
 use Rattle.wdf_base.specs.declared.event.Post.TheVariants as post
 use Rattle.wdf_base.specs.declared.event.Event.{Event}
 use Rattle.wdf_base.specs.Same.{same_handle, same_post, same_status}
+use Rattle.wdf_base.specs.Posts.{is_request}
 use Rattle.wdf_model.specs.declared.stack.Descent.{Descent}
 use Rattle.wdf_model.specs.declared.stack.Descent.TheVariants as descent
 use Rattle.wdf_model.specs.declared.stack.Forwarded.{Forwarded}
 use Rattle.wdf_model.specs.Tables.{first_of_list}
 use Rattle.wdf_model.specs.rules.Posts.{ARRIVALS}
-use Rattle.wdf_model.specs.agents.Connector.{done_with, is_request, is_waiting, post_below, post_of, post_waiting, request_lines}
+use Rattle.wdf_model.specs.agents.Connector.{done_with, is_waiting, post_below, post_of, post_waiting, request_lines}
 use Rattle.wdf_model.proofs.Sames.{handle_same, status_decides}
 use Rattle.wdf_model.proofs.Tests.{both, both_left, both_right, itself}
 use Rattle.law_stack.specs.Laws.{is_cause, is_caused, is_full}

@@ -18,13 +18,13 @@ use Rattle.wdf_base.specs.declared.event.Stage.{Stage}
 use Rattle.wdf_base.specs.declared.event.Stage.TheVariants as stage
 use Rattle.wdf_base.specs.declared.event.Step.{Step}
 use Rattle.wdf_base.specs.declared.event.Step.TheVariants as step
-use Rattle.wdf_base.specs.Callbacks.{row_of}
+use Rattle.wdf_base.specs.Callbacks.{is_query, row_of}
 use Rattle.wdf_model.specs.declared.enums.Phase.{Phase}
 use Rattle.wdf_model.specs.declared.enums.Phase.TheVariants.{Off, Working, Sleeping, Removed}
 use Rattle.wdf_model.specs.declared.stack.AskPost.{AskPost}
 use Rattle.wdf_model.specs.parts.Pnp.{Pnp, Sequence, busy, is_success, left_after, left_after_failure, sequence_of, steps_for, steps_left, taken_step, with_sequence}
 use Rattle.wdf_model.specs.parts.Pnp as pnp
-use Rattle.wdf_model.specs.agents.StackManager.{StackManager, asked, awaited_drops, awaits, came_to, changes_nothing, drops, ended, follower, goes_up, is_alone, is_query, is_working, manager_posted, phase_in, phase_of_stage, post_after, query_ended, stack_manager_after, unless_dropped, with_post}
+use Rattle.wdf_model.specs.agents.StackManager.{StackManager, asked, awaited_drops, awaits, came_to, changes_nothing, drops, ended, follower, goes_up, is_alone, is_working, manager_posted, phase_in, phase_of_stage, post_after, query_ended, stack_manager_after, unless_dropped, with_post}
 use Rattle.wdf_model.proofs.Counts.{equal, one_or_two}
 use Rattle.wdf_model.proofs.Tests.{both_left, both_right, itself, not_false}
 use Rattle.law_machine_base.specs.Agreement.{is_sequence}

@@ -10,12 +10,13 @@ use Rattle.wdf_base.specs.declared.event.Post.TheVariants as post
 use Rattle.wdf_base.specs.declared.event.Event.{Event}
 use Rattle.wdf_base.specs.declared.event.Event.TheVariants as event
 use Rattle.wdf_base.specs.Same.{same_handle, same_option, same_post}
+use Rattle.wdf_base.specs.Posts.{is_request}
 use Rattle.wdf_model.specs.State.{State, opening}
 use Rattle.wdf_model.specs.rules.Posts.{due_of, post_answer, post_fits}
 use Rattle.wdf_model.specs.rules.Ready.{IsRunOf, ready, state_after}
 use Rattle.wdf_model.specs.rules.Steps.{after, may}
 use Rattle.wdf_model.specs.agents.Connector as connector
-use Rattle.wdf_model.specs.agents.Connector.{connector_due, is_request}
+use Rattle.wdf_model.specs.agents.Connector.{connector_due}
 use Rattle.wdf_model.specs.agents.StackAgent as stack
 use Rattle.wdf_model.specs.agents.StackAgent.{StackAgent, agent_after, agent_due}
 use Rattle.wdf_model.proofs.Runs.{along_run}

@@ -17,6 +17,7 @@ use Rattle.wdf_base.specs.declared.event.Post.TheVariants as post
 use Rattle.wdf_base.specs.declared.event.Event.{Event}
 use Rattle.wdf_base.specs.declared.event.Event.TheVariants as event
 use Rattle.wdf_base.specs.Same.{same_status, same_value}
+use Rattle.wdf_base.specs.Posts.{is_request}
 use Rattle.wdf_model.specs.declared.stack.Arrival.{Arrival}
 use Rattle.wdf_model.specs.declared.stack.Descent.TheVariants as descent
 use Rattle.wdf_model.specs.Tables.{flag, in_order_by, tick_after}
@@ -24,7 +25,7 @@ use Rattle.wdf_model.specs.State.{object_in}
 use Rattle.wdf_model.specs.rules.Faults.{arg_is}
 use Rattle.wdf_model.specs.rules.Posts.{ARRIVALS}
 use Rattle.wdf_model.specs.agents.LowerTarget.{handle_in_arg}
-use Rattle.wdf_model.specs.agents.Connector.{Connector, arrival_own, arrival_posted, arrival_taken, cancel_called, cancel_posted, cancelled, cancelled_if_any, completed_by, connector_after, connector_called, is_request, keep_arrival, made_post, passed_down, post_for, send_called, stop_called, with_completed, with_sent, without_request}
+use Rattle.wdf_model.specs.agents.Connector.{Connector, arrival_own, arrival_posted, arrival_taken, cancel_called, cancel_posted, cancelled, cancelled_if_any, completed_by, connector_after, connector_called, keep_arrival, made_post, passed_down, post_for, send_called, stop_called, with_completed, with_sent, without_request}
 use Rattle.wdf_model.proofs.Counts.{count_cons}
 use Rattle.wdf_model.proofs.Sames.{status_decides}
 use Rattle.wdf_model.proofs.Tests.{both, both_left, both_right, itself}

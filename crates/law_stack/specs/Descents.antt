@@ -6,7 +6,7 @@ use Rattle.wdf_base.specs.declared.event.Post.{Post}
 use Rattle.wdf_base.specs.declared.event.Post.TheVariants as post
 use Rattle.wdf_base.specs.declared.event.Event.{Event}
 use Rattle.wdf_base.specs.declared.event.Event.TheVariants as event
-use Rattle.wdf_model.specs.agents.Connector.{is_request}
+use Rattle.wdf_base.specs.Posts.{is_request}
 use Rattle.law_stack.specs.Words.{Passing, connector_of, has_no_arrival, passings}
 
 -- the request of the first Send without an arrival

@@ -17,11 +17,11 @@ use Rattle.wdf_base.specs.declared.event.Stage.TheVariants as stage
 use Rattle.wdf_base.specs.declared.event.Event.{Event}
 use Rattle.wdf_base.specs.declared.event.Event.TheVariants as event
 use Rattle.wdf_base.specs.Same.{same_call_kind, same_status, same_value}
+use Rattle.wdf_base.specs.Posts.{is_request}
 use Rattle.wdf_model.specs.Plans.{device_of, first_device_agent, target_of_agent}
 use Rattle.wdf_model.specs.State.{object_in}
 use Rattle.wdf_model.specs.rules.Faults.{arg_is}
 use Rattle.wdf_model.specs.agents.Chains.{connected_to}
-use Rattle.wdf_model.specs.agents.Connector.{is_request}
 use Rattle.wdf_laws.specs.Events.{argument_object, id_in}
 
 -- ---- connectors

@@ -10,6 +10,7 @@ use Rattle.wdf_base.specs.declared.frame.Pending.{Pending}
 use Rattle.wdf_base.specs.declared.wait.Cause.{Cause}
 use Rattle.wdf_base.specs.declared.wait.Cause.TheVariants as cause
 use Rattle.wdf_base.specs.Places.{is_returning_to, is_sent_to}
+use Rattle.wdf_base.specs.Calls.{is_acquire}
 use Rattle.wdf_model.specs.Ids.{frame_id}
 use Rattle.wdf_model.specs.Tables.{contains, least}
 use Rattle.wdf_model.specs.parts.Cpus.{all_frames, frame_of, is_empty_cpu, is_on}
@@ -18,7 +19,6 @@ use Rattle.wdf_model.specs.parts.Requests.{place_of}
 use Rattle.wdf_model.specs.parts.Queues.{waiting_in}
 use Rattle.wdf_model.specs.parts.Deferred.WorkItems.{is_work_queued}
 use Rattle.wdf_model.specs.State.{State, handle_in, held_from, is_held_from, object_in}
-use Rattle.wdf_model.specs.rules.Faults.{is_acquire}
 use Rattle.wdf_model.specs.rules.Steps.{wait_is_over}
 use Rattle.wdf_model.specs.rules.Waits.{above_in, all_cpus, by_frame, by_frame_on, call_cause, cause_if, first_cause, frame_cause, frames_above, parked_for_cpu, pending_cause, requests_where}
 use Rattle.wdf_model.proofs.Counts.{count_behind}

@@ -22,6 +22,7 @@ use Rattle.wdf_base.specs.Same.{same_callback}
 use Rattle.wdf_base.specs.Lives.{is_asked, is_cleaned, is_past_cleanup}
 use Rattle.wdf_base.specs.Places.{is_returning_to, is_sent_to}
 use Rattle.wdf_base.specs.Callbacks.{dpc_function}
+use Rattle.wdf_base.specs.Calls.{is_acquire}
 use Rattle.wdf_model.specs.Tables.{contains, same_id}
 use Rattle.wdf_model.specs.Plans.{callback_irql, device_of_queue, is_managed, is_manual_queue, managed_queues, queue_level}
 use Rattle.wdf_model.specs.parts.Tree.{is_child, kind_of, life_of, parent_of, references_of}
@@ -36,7 +37,6 @@ use Rattle.wdf_model.specs.parts.Deferred.Dpcs.{is_dpc_queued}
 use Rattle.wdf_model.specs.parts.Pnp.{follows_queues_up, is_running_step}
 use Rattle.wdf_model.specs.parts.Targets.{is_undone}
 use Rattle.wdf_model.specs.State.{State, declared_in, is_held_from, object_in, waits_for}
-use Rattle.wdf_model.specs.rules.Faults.{is_acquire}
 use Rattle.wdf_model.specs.rules.Starts.{handle_id, is_unfinished_at, targets_at}
 use Rattle.wdf_model.specs.rules.Steps.{wait_is_over}
 use Rattle.wdf_model.specs.rules.Waits.{cpu_of_dpc, cpus_with_dpc, head_lock, object_of_step, queues_to_resume}

@@ -7,6 +7,7 @@ use Rattle.wdf_base.specs.declared.call.CallKind.{CallKind}
 use Rattle.wdf_base.specs.declared.call.CallKind.TheVariants as call
 use Rattle.wdf_base.specs.declared.event.Event.{Event}
 use Rattle.wdf_base.specs.declared.event.Event.TheVariants as event
+use Rattle.wdf_base.specs.Posts.{is_request}
 use Rattle.wdf_model.specs.State.{State}
 use Rattle.wdf_model.specs.declared.deed.Deed.{Deed}
 use Rattle.wdf_model.specs.declared.deed.Deed.TheVariants.{Arrive, AskDeletion, CompleteRequest, EndStep, EnqueueDpc}
@@ -14,7 +15,7 @@ use Rattle.wdf_model.specs.rules.Calls.{outcome, second_deeds}
 use Rattle.wdf_model.specs.rules.Deeds.{do_deed, do_deeds}
 use Rattle.wdf_model.specs.rules.Steps.{deeds}
 use Rattle.wdf_model.proofs.Tests.{both_left, both_right}
-use Rattle.law_machine_deeds.specs.MayDo.{is_request, may_do, queues_dpcs}
+use Rattle.law_machine_deeds.specs.MayDo.{may_do, queues_dpcs}
 use Rattle.law_machine_deeds.proofs.Walk.{plain_frame}
 use Rattle.law_machine_deeds.proofs.Passing.{PassesBeside, calls_among, event_passes, first_of, outcome_passes, second_of, second_passes}
 use Rattle.law_stuck_named.proofs.Standing.{AllComes, Comes}

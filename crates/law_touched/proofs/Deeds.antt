@@ -22,6 +22,7 @@ use Rattle.wdf_base.specs.declared.rank.Rank.TheVariants as rank
 use Rattle.wdf_base.specs.declared.value.Value.{Value}
 use Rattle.wdf_base.specs.Callbacks.{row_of}
 use Rattle.wdf_base.specs.Lives.{is_live}
+use Rattle.wdf_base.specs.Calls.{is_acquire, is_release}
 use Rattle.wdf_model.specs.Ids.{object_id}
 use Rattle.wdf_model.specs.State.{State}
 use Rattle.wdf_model.specs.declared.deed.Deed.{Deed}
@@ -29,7 +30,6 @@ use Rattle.wdf_model.specs.declared.deed.Deed.TheVariants as deed
 use Rattle.wdf_model.specs.parts.Requests.{place_of}
 use Rattle.wdf_model.specs.parts.Tree.{life_of}
 use Rattle.wdf_model.specs.rules.Calls.{outcome, second_deeds}
-use Rattle.wdf_model.specs.rules.Faults.{is_acquire, is_release}
 use Rattle.wdf_model.specs.rules.Posts.{arrival_deeds, arrival_info, arrival_place, cancel_at, cancel_deeds, cancel_reaches, post_deeds}
 use Rattle.wdf_model.specs.rules.Starts.{effect, effect_for, end_of_step, release_if_any, stage_deeds, stage_effect, start_effect, take_if_any}
 use Rattle.wdf_model.proofs.Tests.{both_left, both_right, itself}

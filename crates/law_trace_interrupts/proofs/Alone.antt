@@ -13,6 +13,7 @@ use Rattle.wdf_base.specs.declared.call.Callback.TheVariants as callback
 use Rattle.wdf_base.specs.declared.event.Event.{Event}
 use Rattle.wdf_base.specs.declared.event.Event.TheVariants as event
 use Rattle.wdf_base.specs.declared.declared.Declared.{Declared}
+use Rattle.wdf_base.specs.Callbacks.{takes_interrupt_lock}
 use Rattle.wdf_model.specs.Plans.{callback_irql, interrupt_of}
 use Rattle.wdf_model.specs.parts.Cpus.{frame_of, is_empty_cpu, stack_of}
 use Rattle.wdf_model.specs.parts.Locks.{is_free_if_any, is_free_lock, lock_of_callback, object_lock}
@@ -24,7 +25,7 @@ use Rattle.wdf_model.proofs.Tests.{both, both_left, both_right}
 use Rattle.law_machine_lives.proofs.Sound.{lock_of_frame}
 use Rattle.wdf_laws.specs.declared.sign.Stacked.{Stacked}
 use Rattle.wdf_laws.specs.Frames.{frames_after, is_on}
-use Rattle.wdf_laws.specs.Laws.{alone_row, is_alone, is_with_interrupt, takes_interrupt_lock}
+use Rattle.wdf_laws.specs.Laws.{alone_row, is_alone, is_with_interrupt}
 use Rattle.law_trace_scopes.proofs.Frames.{AgreesAfter, IsBegun, agrees_at_each}
 use Rattle.law_trace_scopes.proofs.Scopes.{one_of, own_unfree}
 use Rattle.law_trace_scopes.proofs.Stacks.{told_stack}

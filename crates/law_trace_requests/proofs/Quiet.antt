@@ -6,13 +6,14 @@ use Rattle.wdf_base.specs.declared.call.Arg.{Arg}
 use Rattle.wdf_base.specs.declared.call.CallKind.{CallKind}
 use Rattle.wdf_base.specs.declared.call.CallKind.TheVariants as call
 use Rattle.wdf_base.specs.declared.event.Event.{Event}
+use Rattle.wdf_base.specs.Posts.{is_request}
 use Rattle.wdf_model.specs.State.{State}
 use Rattle.wdf_model.specs.declared.deed.Deed.{Deed}
 use Rattle.wdf_model.specs.declared.deed.Deed.TheVariants.{Arrive, CancelRequest, CompleteRequest, Forward, MarkRequest, Requeue}
 use Rattle.wdf_model.specs.rules.Calls.{outcome}
 use Rattle.wdf_model.specs.rules.Steps.{deeds}
 use Rattle.wdf_model.proofs.Tests.{either_false}
-use Rattle.law_machine_deeds.specs.MayDo.{calls, first_part, gives_to_head, is_cancel, is_completion, is_request, may_do, posts}
+use Rattle.law_machine_deeds.specs.MayDo.{calls, first_part, gives_to_head, is_cancel, is_completion, may_do, posts}
 use Rattle.law_machine_deeds.proofs.Passing.{calls_among, event_passes, first_among, first_of, outcome_passes, posts_among}
 
 -- a deed that makes a request cancelable, cancels or completes one, or lets one enter a queue at its tail or head

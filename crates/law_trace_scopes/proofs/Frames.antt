@@ -23,6 +23,7 @@ use Rattle.wdf_base.specs.declared.event.Fault.TheVariants as fault
 use Rattle.wdf_base.specs.declared.frame.Frame.{Frame}
 use Rattle.wdf_base.specs.Callbacks.{row_of}
 use Rattle.wdf_base.specs.Same.{same_lock}
+use Rattle.wdf_base.specs.Calls.{is_release}
 use Rattle.wdf_model.specs.declared.entries.Held.{Held}
 use Rattle.wdf_model.specs.Tables.{entry, first_of_list, flag, put}
 use Rattle.wdf_model.specs.Plans.{callback_irql}
@@ -32,7 +33,6 @@ use Rattle.wdf_model.specs.parts.Locks.{Locks, holds_by_call, lock_of_callback, 
 use Rattle.wdf_model.specs.State.{State, declared_in, object_in}
 use Rattle.wdf_model.specs.Ids.{cpu_of, frame_id, irql_of}
 use Rattle.wdf_model.specs.rules.Calls.{is_met_then, lock_level}
-use Rattle.wdf_model.specs.rules.Faults.{is_release}
 use Rattle.wdf_model.specs.declared.deed.Deed.{Deed}
 use Rattle.wdf_model.specs.declared.deed.Deed.TheVariants.{GoOn, Lower, ParkFrame, PopFrame, PushFrame, ReleaseLock, UnparkFrame}
 use Rattle.wdf_model.specs.rules.Deeds.{do_deed, do_deeds}

@@ -54,6 +54,19 @@ row_of callback.EvtWorkItem = callback_row rank.Work (owner.Of kind.WorkItem) (l
 row_of callback.EvtCleanupCallback = callback_row rank.Cleanup owner.ClassOrDevice (level.Level (record { 0 = 0 })) lock.NoLock
 row_of callback.EvtDestroyCallback = callback_row rank.Destroy owner.ClassOrDevice (level.Level (record { 0 = 0 })) lock.NoLock
 
+-- the callbacks on an interrupt that run with its lock held (KMDF)
+abbrev pub takes_interrupt_lock : Callback → Bool
+takes_interrupt_lock callback.EvtInterruptIsr = true
+takes_interrupt_lock callback.EvtInterruptEnable = true
+takes_interrupt_lock callback.EvtInterruptDisable = true
+takes_interrupt_lock _ = false
+
+-- the callbacks by which the driver of a working device may refuse what is asked (KMDF)
+abbrev pub is_query : Callback → Bool
+is_query callback.EvtDeviceQueryStop = true
+is_query callback.EvtDeviceQueryRemove = true
+is_query _ = false
+
 -- the place of a rank in the order of starts, from 1
 abbrev pub rank_number : Rank → ℕ
 rank_number rank.Isr = 1

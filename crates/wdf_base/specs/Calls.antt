@@ -13,6 +13,20 @@ use Rattle.wdf_base.specs.declared.signature.Signature.{Signature}
 abbrev pub row : CallLevel → Sort → Sort → Sort → Bool → Signature
 row l x y z t = record { level = l; a = x; b = y; c = z; cleaned = t }
 
+-- the calls that acquire a lock
+abbrev pub is_acquire : CallKind → Bool
+is_acquire call.WdfSpinLockAcquire = true
+is_acquire call.WdfWaitLockAcquire = true
+is_acquire call.WdfInterruptAcquireLock = true
+is_acquire _ = false
+
+-- the calls that give a lock back
+abbrev pub is_release : CallKind → Bool
+is_release call.WdfSpinLockRelease = true
+is_release call.WdfWaitLockRelease = true
+is_release call.WdfInterruptReleaseLock = true
+is_release _ = false
+
 -- the row of a call
 abbrev pub signature_of : CallKind → Signature
 signature_of call.WdfObjectCreate = row (level.AtMost (record { 0 = 2 })) (sort.Class kind.General) sort.AnyObject sort.Absent false

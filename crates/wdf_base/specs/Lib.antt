@@ -12,3 +12,4 @@ pub mod Words
 pub mod Places
 pub mod Lives
 pub mod Stages
+pub mod Posts

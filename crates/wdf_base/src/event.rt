@@ -14,6 +14,7 @@
 //! - **Which number does a cancel carry?** `arrival`, the number of the arrival among the app's own, from 1, as its
 //!   line prints it (64 bits, as any number of the text).
 ghost use Rattle.std.specs.Prelude.{◌≡◌};
+ghost use Rattle.wdf_base.specs.Posts as posts;
 ghost use Rattle.wdf_base.specs.Stages as stages;
 
 use crate::call::{Call, Callback};
@@ -153,6 +154,18 @@ pub enum Post {
         request: Handle,
         status: Status,
     },
+}
+
+impl Post {
+    /// Whether a request arrives by it: it is a read, a write or a control.
+    pub fn is_request(&self) -> bool
+        ensures { result ≡ posts.is_request self.now }
+    {
+        matches!(
+            self,
+            Post::Read { .. } | Post::Write { .. } | Post::Control { .. }
+        )
+    }
 }
 
 /// One step of the machine, with everything that its trace line says.

@@ -296,6 +296,28 @@ impl Callback {
     }
 }
 
+impl Callback {
+    /// Whether it is on an interrupt, and runs with the interrupt's lock held. (KMDF)
+    pub fn takes_interrupt_lock(self) -> bool
+        ensures { result ≡ table.takes_interrupt_lock self }
+    {
+        matches!(
+            self,
+            Callback::EvtInterruptIsr | Callback::EvtInterruptEnable | Callback::EvtInterruptDisable
+        )
+    }
+
+    /// Whether the driver of a working device may refuse by it what is asked. (KMDF)
+    pub fn is_query(self) -> bool
+        ensures { result ≡ table.is_query self }
+    {
+        matches!(
+            self,
+            Callback::EvtDeviceQueryStop | Callback::EvtDeviceQueryRemove
+        )
+    }
+}
+
 impl Rank {
     /// The place in the order of starts, from 1.
     pub fn number(self) -> u8

@@ -70,6 +70,32 @@ fn row(level: CallLevel, a: Sort, b: Sort, c: Sort, cleaned: bool) -> Signature
 }
 
 impl CallKind {
+    /// Whether the call acquires a lock.
+    pub fn is_acquire(self) -> bool
+        ensures { result ≡ calls.is_acquire self }
+    {
+        matches!(
+            self,
+            CallKind::WdfSpinLockAcquire
+                | CallKind::WdfWaitLockAcquire
+                | CallKind::WdfInterruptAcquireLock
+        )
+    }
+
+    /// Whether the call gives a lock back.
+    pub fn is_release(self) -> bool
+        ensures { result ≡ calls.is_release self }
+    {
+        matches!(
+            self,
+            CallKind::WdfSpinLockRelease
+                | CallKind::WdfWaitLockRelease
+                | CallKind::WdfInterruptReleaseLock
+        )
+    }
+}
+
+impl CallKind {
     /// What the call takes, and how high it may be made.
     pub fn signature(self) -> Signature
         ensures { result ≡ calls.signature_of self }

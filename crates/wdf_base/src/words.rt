@@ -133,14 +133,12 @@ impl Callback {
         CALLBACK_WORDS[self as usize]
     }
 
-    /// The variant with this word, if there is one.
+    /// The variant with this word, if there is one. Most have another length, and are told apart by it.
     pub fn from_word(word: &[u8]) -> Option<Callback>
         ensures { result ≡ words.callback_of word.now }
     {
-        CALLBACKS
-            .iter()
-            .copied()
-            .find(|x| x.word().as_bytes() == word)
+        CALLBACKS.iter().copied().find(|x| x.word().len() == word.len()
+            && x.word().as_bytes() == word)
     }
 }
 
@@ -250,14 +248,12 @@ impl CallKind {
         CALL_WORDS[self as usize]
     }
 
-    /// The variant with this word, if there is one.
+    /// The variant with this word, if there is one. Most have another length, and are told apart by it.
     pub fn from_word(word: &[u8]) -> Option<CallKind>
         ensures { result ≡ words.call_of word.now }
     {
-        CALL_KINDS
-            .iter()
-            .copied()
-            .find(|x| x.word().as_bytes() == word)
+        CALL_KINDS.iter().copied().find(|x| x.word().len() == word.len()
+            && x.word().as_bytes() == word)
     }
 }
 

@@ -32,4 +32,4 @@ pub use app::App;
 pub use device::Device;
 pub use laws::agents_are_the_models;
 pub use lower_target::{LowerTarget, handle_in, is_zero, names};
-pub use pnp_manager::{PnpManager, is_query};
+pub use pnp_manager::PnpManager;

@@ -1,13 +1,11 @@
 ghost use Rattle.std.specs.Prelude.{◌≡◌, IfOk};
 ghost use Rattle.wdf_model.specs.agents.App as app;
-ghost use Rattle.wdf_model.specs.agents.IdlePolicy as policy;
 ghost use Rattle.wdf_model.specs.agents.PnpManager.{manager_at};
-ghost use Rattle.wdf_model.specs.agents.StackManager as manager;
 
 use crate::app::App;
 use std::alloc::Global;
 use std::marker::Model;
-use wdf_base::{Callback, Event, Memory, Plan, Post};
+use wdf_base::{Event, Memory, Plan, Post};
 
 /// The Plug and Play manager: it posts its lines in order, as an app does. It is agent 0. (own)
 #[derive(Drop)]
@@ -21,18 +19,6 @@ impl Model for PnpManager {
     ghost Value = { App };
 
     ghost view = { λ s. s.lines };
-}
-
-/// Whether the driver of a working device may refuse by this callback what is asked. The two that stand in place of this
-/// manager, the idle policy and the stack manager, ask it. (KMDF)
-pub fn is_query(callback: Callback) -> bool
-    ensures idle { result ≡ policy.is_query callback }
-    ensures stack { result ≡ manager.is_query callback }
-{
-    matches!(
-        callback,
-        Callback::EvtDeviceQueryStop | Callback::EvtDeviceQueryRemove
-    )
 }
 
 impl PnpManager {

@@ -19,6 +19,7 @@ use Rattle.wdf_base.specs.declared.event.Action.{Action}
 use Rattle.wdf_base.specs.declared.event.Action.TheVariants as action
 use Rattle.wdf_base.specs.declared.event.Event.{Event}
 use Rattle.wdf_base.specs.declared.event.Event.TheVariants as event
+use Rattle.wdf_base.specs.Calls.{is_acquire}
 use Rattle.wdf_lines.specs.Lines.{line_text}
 use Rattle.wdf_explain.specs.declared.asked.Asked.{Asked}
 use Rattle.wdf_explain.specs.declared.asked.Asked.TheVariants.{About, Moves, Takes, OnCpu}
@@ -126,17 +127,10 @@ moves r (event.Complete request s) = is_object r request
 moves r (event.Posted agent p answer) = is_moving_post r p answer
 moves r _ = false
 
--- the calls that take a lock
-abbrev pub is_taking : CallKind → Bool
-is_taking call.WdfSpinLockAcquire = true
-is_taking call.WdfWaitLockAcquire = true
-is_taking call.WdfInterruptAcquireLock = true
-is_taking _ = false
-
 -- An event is a call that took the lock of this object.
 abbrev pub takes : ℕ → Event → Bool
-takes o (event.Did cpu c answer) = is_taking c.kind && is_argument o c.a
-takes o (event.Woke cpu c answer) = is_taking c.kind && is_argument o c.a
+takes o (event.Did cpu c answer) = is_acquire c.kind && is_argument o c.a
+takes o (event.Woke cpu c answer) = is_acquire c.kind && is_argument o c.a
 takes o _ = false
 
 -- ---- where an event comes from

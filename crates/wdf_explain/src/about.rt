@@ -195,25 +195,13 @@ pub(crate) fn moves(request: ObjectId, event: &Event) -> bool
     }
 }
 
-/// Whether a call takes a lock.
-fn is_taking(kind: CallKind) -> bool
-    ensures { result ≡ about.is_taking kind }
-{
-    matches!(
-        kind,
-        CallKind::WdfSpinLockAcquire
-            | CallKind::WdfWaitLockAcquire
-            | CallKind::WdfInterruptAcquireLock
-    )
-}
-
 /// Whether an event is a call that took the lock of the object.
 pub(crate) fn takes(object: ObjectId, event: &Event) -> bool
     ensures { result ≡ about.takes object.0 event.now }
 {
     match event {
         Event::Did { call, .. } | Event::Woke { call, .. } => {
-            is_taking(call.kind) && is_argument(object, call.a)
+            call.kind.is_acquire() && is_argument(object, call.a)
         }
         _ => false,
     }

@@ -12,7 +12,8 @@ use Rattle.wdf_base.specs.declared.call.CallKind.{CallKind}
 use Rattle.wdf_base.specs.declared.call.CallKind.TheVariants as call
 use Rattle.wdf_base.specs.declared.call.Callback.{Callback}
 use Rattle.wdf_base.specs.declared.call.Callback.TheVariants as callback
-use Rattle.wdf_model.specs.agents.IdlePolicy.{IdleDevice, IdlePolicy, changed, count_of, idle_after, is_query, is_removal_query, manager_after, pending_after_call, policy_after, starts_anew}
+use Rattle.wdf_base.specs.Callbacks.{is_query}
+use Rattle.wdf_model.specs.agents.IdlePolicy.{IdleDevice, IdlePolicy, changed, count_of, idle_after, is_removal_query, manager_after, pending_after_call, policy_after, starts_anew}
 use Rattle.wdf_idle.specs.Ahead.{concerns, is_completion}
 
 not_both : (b : Bool) → (not b && b) ≡ false

@@ -5,8 +5,9 @@ use Rattle.wdf_base.specs.declared.call.CallKind.TheVariants as call
 use Rattle.wdf_base.specs.declared.event.Event.{Event}
 use Rattle.wdf_base.specs.declared.event.Event.TheVariants as event
 use Rattle.wdf_base.specs.declared.event.Post.{Post}
+use Rattle.wdf_base.specs.Callbacks.{is_query}
 use Rattle.wdf_model.specs.agents.App.{App}
-use Rattle.wdf_model.specs.agents.IdlePolicy.{IdleDevice, first_post, is_query, policy_next}
+use Rattle.wdf_model.specs.agents.IdlePolicy.{IdleDevice, first_post, policy_next}
 
 -- own: its clock is the manager's; the first due post and the least later tick are those of the definitions
 pub record IsAhead (manager : App) (devices : List IdleDevice) (clock : ℕ) (first : Option Post) (next : Option ℕ) : Type 0 where

@@ -1,4 +1,5 @@
 ghost use Rattle.std.specs.Prelude.{◌≡◌, ◌+◌, ◌<◌, ◌^◌, ◌==◌, ◌&&◌, ◌||◌, false, length, nat_le, not, vec_capacity};
+ghost use Rattle.wdf_base.specs.Callbacks.{is_query};
 ghost use Rattle.wdf_model.specs.Tables.{entry, flag, put};
 ghost use Rattle.wdf_model.specs.agents.IdlePolicy as model;
 ghost use Rattle.wdf_idle.specs.Parts.{acted, arrived, asked, numbered, posted, staged};
@@ -8,7 +9,6 @@ use wdf_base::{
     Access, Action, Ask, Call, CallKind, Callback, Event, Handle, ObjectId, Post, Stage, Status,
     Value, same_object_id,
 };
-use wdf_dev::is_query;
 use wdf_maps::{entry_at, put_at};
 use wdf_model::object_in;
 use wdf_same::same_value;
@@ -227,12 +227,12 @@ impl IdleDevice {
     /// A callback ended.
     fn note_end(&mut self, callback: Callback, object: Handle, value: Value)
         ensures { self.new ≡ record self.old {
-          awake = self.old.awake || (self.old.was_awake && model.is_query callback && model.is_refusal self.old object value);
+          awake = self.old.awake || (self.old.was_awake && is_query callback && model.is_refusal self.old object value);
           asleep = self.old.asleep || (self.old.was_asleep && model.is_removal_query callback && model.is_refusal self.old object value);
         } }
     {
         let refused = self.is(object) && !same_value(value, Value::Stat(Status::Success));
-        self.awake = self.awake || (self.was_awake && is_query(callback) && refused);
+        self.awake = self.awake || (self.was_awake && callback.is_query() && refused);
         self.asleep = self.asleep || (self.was_asleep && is_removal_query(callback) && refused);
     }
 

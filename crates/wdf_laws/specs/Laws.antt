@@ -14,7 +14,7 @@ use Rattle.wdf_base.specs.declared.call.Callback.TheVariants as callback
 use Rattle.wdf_base.specs.declared.event.Stage.TheVariants as stage
 use Rattle.wdf_base.specs.declared.event.Event.{Event}
 use Rattle.wdf_base.specs.declared.event.Event.TheVariants as event
-use Rattle.wdf_base.specs.Callbacks.{row_of}
+use Rattle.wdf_base.specs.Callbacks.{row_of, takes_interrupt_lock}
 use Rattle.wdf_base.specs.Same.{same_callback, same_lock}
 use Rattle.wdf_model.specs.Plans.{declares, device_of, queue_of, interrupt_of}
 use Rattle.wdf_laws.specs.declared.sign.Sign.TheVariants as sign
@@ -84,13 +84,6 @@ abbrev pub is_enabled_in_power : Plan → List Event → ℕ → ℕ → Bool
 is_enabled_in_power plan before i d =
     stands (sign.Enabled i) (sign.ExitBegins d) before
     && (not (declares plan callback.EvtDeviceD0Entry d) || stood_at (sign.Enabled i) (sign.Entered d) (sign.NotEntered d) before)
-
--- the callbacks that run under their interrupt's lock
-abbrev pub takes_interrupt_lock : Callback → Bool
-takes_interrupt_lock callback.EvtInterruptIsr = true
-takes_interrupt_lock callback.EvtInterruptEnable = true
-takes_interrupt_lock callback.EvtInterruptDisable = true
-takes_interrupt_lock _ = false
 
 abbrev pub is_with_interrupt : ℕ → Begun → Bool
 is_with_interrupt i b = takes_interrupt_lock b.callback && (b.object == i)

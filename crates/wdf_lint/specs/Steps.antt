@@ -3,8 +3,6 @@ use Rattle.std.specs.Prelude.{if◌then◌else◌, ℕ, Bool, true, false, ◌==
 use Rattle.wdf_base.specs.declared.plan.Plan.{Plan}
 use Rattle.wdf_base.specs.declared.value.Status.TheVariants as status
 use Rattle.wdf_base.specs.declared.object.Kind.TheVariants as kind
-use Rattle.wdf_base.specs.declared.call.Callback.{Callback}
-use Rattle.wdf_base.specs.declared.call.Callback.TheVariants as callback
 use Rattle.wdf_base.specs.declared.call.CallKind.{CallKind}
 use Rattle.wdf_base.specs.declared.call.CallKind.TheVariants as call
 use Rattle.wdf_base.specs.declared.declared.Declared.{Declared}
@@ -23,7 +21,7 @@ use Rattle.wdf_base.specs.declared.script.Operator.TheVariants as operator
 use Rattle.wdf_base.specs.declared.script.Statement.{Statement}
 use Rattle.wdf_base.specs.declared.rank.Owner.{Owner}
 use Rattle.wdf_base.specs.declared.rank.Owner.TheVariants as owner
-use Rattle.wdf_base.specs.Callbacks.{row_of}
+use Rattle.wdf_base.specs.Callbacks.{row_of, takes_interrupt_lock}
 use Rattle.wdf_base.specs.Plan.{statements_of}
 use Rattle.wdf_base.specs.Same.{same_kind, same_status}
 use Rattle.wdf_model.specs.Tables.{contains, without}
@@ -121,16 +119,9 @@ interrupt_in plan k (Some (node.Object h)) = Some h.id.0
 interrupt_in plan k (Some (node.Context context.OwnObject)) = if is_of_interrupt (row_of (callback_of plan k)).owner then Some (id_of plan (owner_of plan k)) else None
 interrupt_in plan k _ = None
 
--- a callback that takes its interrupt's lock at its start
-abbrev pub takes_own_lock : Callback → Bool
-takes_own_lock callback.EvtInterruptIsr = true
-takes_own_lock callback.EvtInterruptEnable = true
-takes_own_lock callback.EvtInterruptDisable = true
-takes_own_lock _ = false
-
 -- the lock that the callback took at its start
 abbrev pub is_own_lock : Plan → ℕ → ℕ → Bool
-is_own_lock plan k i = takes_own_lock (callback_of plan k) && id_of plan (owner_of plan k) == i
+is_own_lock plan k i = takes_interrupt_lock (callback_of plan k) && id_of plan (owner_of plan k) == i
 
 -- a scope that keeps callbacks apart
 abbrev pub is_scoped : Scope → Bool

@@ -37,15 +37,6 @@ pub fn interrupt_in(_plan: &Plan, w: &Walked, node: Option<ExprNode>) -> Option<
     }
 }
 
-fn takes_own_lock(callback: Callback) -> bool
-    ensures { result ≡ spec.takes_own_lock callback }
-{
-    matches!(
-        callback,
-        Callback::EvtInterruptIsr | Callback::EvtInterruptEnable | Callback::EvtInterruptDisable
-    )
-}
-
 fn is_scoped_queue(owner: &Declared) -> bool
     ensures { result ≡ spec.is_scoped_queue owner.now }
 {
@@ -148,7 +139,7 @@ fn rule_of_acquiring_at(
     match interrupt {
         None => Some(Fault::LockHeldAlready),
         Some(i) => {
-            let is_own = takes_own_lock(w.callback) && w.own == i;
+            let is_own = w.callback.takes_interrupt_lock() && w.own == i;
             unless(!a.interrupts.has(i) && !is_own, Fault::LockHeldAlready)
         }
     }

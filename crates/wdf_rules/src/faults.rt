@@ -4,8 +4,8 @@ ghost use Rattle.wdf_model.specs.rules.Faults as faults;
 
 use crate::arguments::{any_script_error, any_stale, any_wrong_kind};
 use crate::groups::{
-    forgets_made, gives_up, greatest_level, holds_lock, holds_scope, is_acquire, is_never_deleted,
-    is_not_owned, is_release, is_stop_of, waits_for_others,
+    forgets_made, gives_up, greatest_level, holds_lock, holds_scope, is_never_deleted,
+    is_not_owned, is_stop_of, waits_for_others,
 };
 use crate::view::View;
 use wdf_base::{Call, CallKind, FAULTS, Fault, Intent, LockRef, same_object_id};
@@ -41,9 +41,9 @@ fn call_faults<V: View>(view: &V, call: &Call, fault: Fault) -> bool
                 && is_never_deleted(view.kind(object))
         }
         Fault::LockHeldAlready => {
-            is_acquire(call.kind) && holds_lock(view, LockRef::Object(object))
+            call.kind.is_acquire() && holds_lock(view, LockRef::Object(object))
         }
-        Fault::LockNotHeld => is_release(call.kind) && !view.by_call(LockRef::Object(object)),
+        Fault::LockNotHeld => call.kind.is_release() && !view.by_call(LockRef::Object(object)),
         Fault::ReturnHoldingLock | Fault::HardwareReleased => false,
         Fault::SyncInOwnScope => {
             waits_for_others(call)

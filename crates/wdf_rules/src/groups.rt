@@ -8,8 +8,8 @@ ghost use Rattle.wdf_model.specs.rules.Faults as faults;
 use crate::arguments::is_number;
 use crate::view::View;
 use wdf_base::{
-    Call, CallKind, CallLevel, Callback, Handle, Kind, LockRef, Mark, ObjectId, Place,
-    same_callback, same_object_id,
+    Call, CallKind, CallLevel, Callback, Handle, Kind, LockRef, ObjectId, same_callback,
+    same_object_id,
 };
 use wdf_model::object_in;
 use wdf_same::{same_call_kind, same_frame_id, same_kind};
@@ -63,30 +63,6 @@ pub fn waits_for_others(call: &Call) -> bool
         CallKind::WdfDpcCancel | CallKind::WdfTimerStop => !is_number(call.b, 0),
         _ => false,
     }
-}
-
-/// Whether a call acquires a lock.
-pub fn is_acquire(kind: CallKind) -> bool
-    ensures { result ≡ faults.is_acquire kind }
-{
-    matches!(
-        kind,
-        CallKind::WdfSpinLockAcquire
-            | CallKind::WdfWaitLockAcquire
-            | CallKind::WdfInterruptAcquireLock
-    )
-}
-
-/// Whether a call releases a lock.
-pub fn is_release(kind: CallKind) -> bool
-    ensures { result ≡ faults.is_release kind }
-{
-    matches!(
-        kind,
-        CallKind::WdfSpinLockRelease
-            | CallKind::WdfWaitLockRelease
-            | CallKind::WdfInterruptReleaseLock
-    )
 }
 
 /// The greatest level at which a call may be made.

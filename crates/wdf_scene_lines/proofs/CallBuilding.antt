@@ -106,3 +106,35 @@ call_overfull kind into (ArgumentBefore a b1) (ArgumentBefore b b2) (ArgumentBef
     (ap (read_argument (signature_of kind).c) (sym h2.left_is) ∙ sym is3) in
     let P : Option Written → Type 0 = λ w. IsLineRead w None s0 s3 in
     subst P (sym (steps ∙ none_left kind into a b c b3 (λ e. more (h3.left_is ∙ e)))) tt
+
+-- an argument isn't there
+pub call_without_first : (kind : CallKind) (into : Option (List ℕ)) (first : ArgumentReading) (l1 : List Token) (s0 s1 : Scene)
+    → IsArgumentRead first None l1 s0 s1
+    → IsLineRead (first_read kind into first) None s0 s1
+call_without_first kind into NoArgument l1 s0 s1 h1 = tt
+call_without_first kind into (ArgumentBefore a b1) l1 s0 s1 h1 = absurd h1
+
+pub call_without_second : (kind : CallKind) (into : Option (List ℕ)) (first second : ArgumentReading) (l1 l2 : List Token) (s0 s1 s2 : Scene) (x : SceneArg)
+    → IsArgumentRead first (Some x) l1 s0 s1
+    → second ≡ read_argument (signature_of kind).b l1 → IsArgumentRead second None l2 s1 s2
+    → IsLineRead (first_read kind into first) None s0 s2
+call_without_second kind into NoArgument second l1 l2 s0 s1 s2 x h1 is2 h2 = absurd h1
+call_without_second kind into (ArgumentBefore a b1) (ArgumentBefore b b2) l1 l2 s0 s1 s2 x h1 is2 h2 = absurd h2
+call_without_second kind into (ArgumentBefore a b1) NoArgument l1 l2 s0 s1 s2 x h1 is2 h2 =
+    let second = ap (read_argument (signature_of kind).b) (sym h1.left_is) ∙ sym is2 in
+    let P : Option Written → Type 0 = λ w. IsLineRead w None s0 s2 in
+    subst P (sym (ap (second_read kind into a) second)) tt
+
+pub call_without_third : (kind : CallKind) (into : Option (List ℕ)) (first second third : ArgumentReading) (l1 l2 l3 : List Token) (s0 s1 s2 s3 : Scene) (x y : SceneArg)
+    → IsArgumentRead first (Some x) l1 s0 s1
+    → second ≡ read_argument (signature_of kind).b l1 → IsArgumentRead second (Some y) l2 s1 s2
+    → third ≡ read_argument (signature_of kind).c l2 → IsArgumentRead third None l3 s2 s3
+    → IsLineRead (first_read kind into first) None s0 s3
+call_without_third kind into NoArgument second third l1 l2 l3 s0 s1 s2 s3 x y h1 is2 h2 is3 h3 = absurd h1
+call_without_third kind into (ArgumentBefore a b1) NoArgument third l1 l2 l3 s0 s1 s2 s3 x y h1 is2 h2 is3 h3 = absurd h2
+call_without_third kind into (ArgumentBefore a b1) (ArgumentBefore b b2) (ArgumentBefore c b3) l1 l2 l3 s0 s1 s2 s3 x y h1 is2 h2 is3 h3 = absurd h3
+call_without_third kind into (ArgumentBefore a b1) (ArgumentBefore b b2) NoArgument l1 l2 l3 s0 s1 s2 s3 x y h1 is2 h2 is3 h3 =
+    let second = ap (read_argument (signature_of kind).b) (sym h1.left_is) ∙ sym is2 in
+    let third = ap (read_argument (signature_of kind).c) (sym h2.left_is) ∙ sym is3 in
+    let P : Option Written → Type 0 = λ w. IsLineRead w None s0 s3 in
+    subst P (sym (ap (second_read kind into a) second ∙ ap (third_read kind into a b) third)) tt

@@ -1,8 +1,11 @@
 //! The tokens of the lines without expressions and picks.
 ghost use Rattle.std.specs.Prelude.{◌≡◌, ◌++◌, ◌∷◌, [], OnOk};
+ghost use Rattle.wdf_tokens.specs.WordTokens.{word};
 ghost use Rattle.wdf_scene_lines.specs.Spelling as spelling;
 
-use wdf_base::{Access, DeferredKind, DispatchKind, ExecutionLevel, Memory, Name, Scope};
+use wdf_base::{
+    Access, Ask, DeferredKind, DispatchKind, ExecutionLevel, Memory, Name, Scope, Status,
+};
 use wdf_scene::{InterruptLevel, SceneAction, SceneLine};
 use wdf_tokens::{
     Keyword, Token, access_token, ask_token, callback_token, deferred_kind_token, form_token,
@@ -15,6 +18,139 @@ pub fn add(tokens: &mut Vec<Token>, more: &[Token]) -> Result<(), Memory>
 {
     tokens.extend_from_slice(more)?;
     Ok(())
+}
+
+/// Adds a word of the language.
+fn add_key(tokens: &mut Vec<Token>, keyword: Keyword) -> Result<(), Memory>
+    ensures { OnOk result (tokens.new.items ≡ tokens.old.items ++ word keyword ∷ []) }
+{
+    add(tokens, &[key(keyword)])
+}
+
+/// Adds a word of the language and a token.
+fn add_with(tokens: &mut Vec<Token>, keyword: Keyword, token: Token) -> Result<(), Memory>
+    ensures { OnOk result (tokens.new.items ≡ tokens.old.items ++ word keyword ∷ token ∷ []) }
+{
+    add(tokens, &[key(keyword), token])
+}
+
+/// Adds a word of the language, a name and a token.
+fn add_named(
+    tokens: &mut Vec<Token>,
+    keyword: Keyword,
+    name: Name,
+    token: Token,
+) -> Result<(), Memory>
+    ensures { OnOk result (tokens.new.items ≡ tokens.old.items ++ word keyword ∷ Token.Word name ∷ token ∷ []) }
+{
+    add(tokens, &[key(keyword), Token::Word(name), token])
+}
+
+/// Adds what an app does: reads from a device or writes to it.
+fn add_transfer(
+    tokens: &mut Vec<Token>,
+    tick: u64,
+    verb: Keyword,
+    device: Name,
+    length: u64,
+) -> Result<(), Memory>
+    ensures { OnOk result (tokens.new.items ≡ tokens.old.items ++ word Keyword.At ∷ Token.Number tick ∷ word verb ∷ Token.Word device ∷ Token.Number length ∷ []) }
+{
+    add(
+        tokens,
+        &[
+            key(Keyword::At),
+            Token::Number(tick),
+            key(verb),
+            Token::Word(device),
+            Token::Number(length),
+        ],
+    )
+}
+
+fn add_target(
+    tokens: &mut Vec<Token>,
+    name: Name,
+    delay: u64,
+    status: Status,
+    depth: u64,
+) -> Result<(), Memory>
+    ensures { OnOk result (tokens.new.items ≡ tokens.old.items ++ spelling.plain_tokens (SceneLine.Target name delay status depth)) }
+{
+    add(
+        tokens,
+        &[
+            key(Keyword::Target),
+            Token::Word(name),
+            Token::Number(delay),
+            status_token(status),
+            Token::Number(depth),
+        ],
+    )
+}
+
+fn add_control(
+    tokens: &mut Vec<Token>,
+    tick: u64,
+    device: Name,
+    code: u64,
+    length: u64,
+) -> Result<(), Memory>
+    ensures { OnOk result (tokens.new.items ≡ tokens.old.items ++ spelling.plain_tokens (SceneLine.AtControl tick device code length)) }
+{
+    add(
+        tokens,
+        &[
+            key(Keyword::At),
+            Token::Number(tick),
+            key(Keyword::Control),
+            Token::Word(device),
+            Token::Number(code),
+            Token::Number(length),
+        ],
+    )
+}
+
+fn add_cancel(tokens: &mut Vec<Token>, tick: u64, request: u64) -> Result<(), Memory>
+    ensures { OnOk result (tokens.new.items ≡ tokens.old.items ++ spelling.plain_tokens (SceneLine.AtCancel tick request)) }
+{
+    add(
+        tokens,
+        &[
+            key(Keyword::At),
+            Token::Number(tick),
+            key(Keyword::Cancel),
+            Token::Number(request),
+        ],
+    )
+}
+
+fn add_ask(tokens: &mut Vec<Token>, tick: u64, ask: Ask, device: Name) -> Result<(), Memory>
+    ensures { OnOk result (tokens.new.items ≡ tokens.old.items ++ spelling.plain_tokens (SceneLine.AtAsk tick ask device)) }
+{
+    add(
+        tokens,
+        &[
+            key(Keyword::At),
+            Token::Number(tick),
+            ask_token(ask),
+            Token::Word(device),
+        ],
+    )
+}
+
+fn add_get(tokens: &mut Vec<Token>, variable: Name, register: Name) -> Result<(), Memory>
+    ensures { OnOk result (tokens.new.items ≡ tokens.old.items ++ spelling.plain_tokens (SceneLine.Get variable register)) }
+{
+    add(
+        tokens,
+        &[
+            key(Keyword::Get),
+            Token::Word(variable),
+            Token::Assign,
+            Token::Word(register),
+        ],
+    )
 }
 
 fn add_deferred(
@@ -162,63 +298,39 @@ pub fn add_plain(tokens: &mut Vec<Token>, form: &SceneLine) -> Result<(), Memory
     ensures { OnOk result (tokens.new.items ≡ tokens.old.items ++ spelling.plain_tokens form.now) }
 {
     match form {
-        SceneLine::Cpus(n) => add(tokens, &[key(Keyword::Cpus), Token::Number(*n)]),
-        SceneLine::Limit(n) => add(tokens, &[key(Keyword::Limit), Token::Number(*n)]),
-        SceneLine::Objects(n) => add(tokens, &[key(Keyword::Objects), Token::Number(*n)]),
-        SceneLine::Driver => add(tokens, &[key(Keyword::Driver)]),
-        SceneLine::Class { name, kind } => add(
-            tokens,
-            &[
-                key(Keyword::Class),
-                Token::Word(*name),
-                plain_kind_token(*kind),
-            ],
-        ),
+        SceneLine::Cpus(n) => add_with(tokens, Keyword::Cpus, Token::Number(*n)),
+        SceneLine::Limit(n) => add_with(tokens, Keyword::Limit, Token::Number(*n)),
+        SceneLine::Objects(n) => add_with(tokens, Keyword::Objects, Token::Number(*n)),
+        SceneLine::Driver => add_key(tokens, Keyword::Driver),
+        SceneLine::Class { name, kind } => {
+            add_named(tokens, Keyword::Class, *name, plain_kind_token(*kind))
+        }
         SceneLine::DeferredClass { name, kind, parent } => add_deferred(
             tokens, *name, *kind, parent,
         ),
         SceneLine::Device { name, working } => add_device(tokens, *name, *working),
-        SceneLine::Interrupt { name, level } => add(
-            tokens,
-            &[
-                key(Keyword::Interrupt),
-                Token::Word(*name),
-                level_token_of(*level),
-            ],
-        ),
+        SceneLine::Interrupt { name, level } => {
+            add_named(tokens, Keyword::Interrupt, *name, level_token_of(*level))
+        }
         SceneLine::Queue { name, dispatch } => add_queue(tokens, *name, *dispatch),
         SceneLine::Target {
             name,
             delay,
             status,
             depth,
-        } => add(
-            tokens,
-            &[
-                key(Keyword::Target),
-                Token::Word(*name),
-                Token::Number(*delay),
-                status_token(*status),
-                Token::Number(*depth),
-            ],
-        ),
-        SceneLine::App { name } => add(tokens, &[key(Keyword::App), Token::Word(*name)]),
-        SceneLine::Pnp => add(tokens, &[key(Keyword::Pnp)]),
-        SceneLine::Order => add(tokens, &[key(Keyword::Order)]),
-        SceneLine::On { callback } => add(tokens, &[key(Keyword::On), callback_token(*callback)]),
-        SceneLine::End => add(tokens, &[key(Keyword::End)]),
-        SceneLine::Scope { scope } => add(tokens, &[key(Keyword::Scope), scope_token_of(*scope)]),
-        SceneLine::Level { level } => add(tokens, &[key(Keyword::Level), execution_token(*level)]),
-        SceneLine::Serialize => add(tokens, &[key(Keyword::Serialize)]),
-        SceneLine::Period { ticks } => add(tokens, &[key(Keyword::Period), Token::Number(*ticks)]),
-        SceneLine::Register { name, value } => add(
-            tokens,
-            &[
-                key(Keyword::Register),
-                Token::Word(*name),
-                Token::Number(*value),
-            ],
-        ),
+        } => add_target(tokens, *name, *delay, *status, *depth),
+        SceneLine::App { name } => add_with(tokens, Keyword::App, Token::Word(*name)),
+        SceneLine::Pnp => add_key(tokens, Keyword::Pnp),
+        SceneLine::Order => add_key(tokens, Keyword::Order),
+        SceneLine::On { callback } => add_with(tokens, Keyword::On, callback_token(*callback)),
+        SceneLine::End => add_key(tokens, Keyword::End),
+        SceneLine::Scope { scope } => add_with(tokens, Keyword::Scope, scope_token_of(*scope)),
+        SceneLine::Level { level } => add_with(tokens, Keyword::Level, execution_token(*level)),
+        SceneLine::Serialize => add_key(tokens, Keyword::Serialize),
+        SceneLine::Period { ticks } => add_with(tokens, Keyword::Period, Token::Number(*ticks)),
+        SceneLine::Register { name, value } => {
+            add_named(tokens, Keyword::Register, *name, Token::Number(*value))
+        }
         SceneLine::When {
             access,
             register,
@@ -226,82 +338,30 @@ pub fn add_plain(tokens: &mut Vec<Token>, form: &SceneLine) -> Result<(), Memory
             after,
         } => add_when(tokens, *access, *register, action, *after),
         SceneLine::At { tick, action } => add_at(tokens, *tick, action),
-        SceneLine::Default => add(tokens, &[key(Keyword::Default)]),
-        SceneLine::For { form } => add(tokens, &[key(Keyword::For), form_token(*form)]),
-        SceneLine::PowerOff => add(tokens, &[key(Keyword::Power), key(Keyword::Off)]),
-        SceneLine::Zero => add(tokens, &[key(Keyword::Zero)]),
+        SceneLine::Default => add_key(tokens, Keyword::Default),
+        SceneLine::For { form } => add_with(tokens, Keyword::For, form_token(*form)),
+        SceneLine::PowerOff => add_with(tokens, Keyword::Power, key(Keyword::Off)),
+        SceneLine::Zero => add_key(tokens, Keyword::Zero),
         SceneLine::AtRead {
             tick,
             device,
             length,
-        } => add(
-            tokens,
-            &[
-                key(Keyword::At),
-                Token::Number(*tick),
-                key(Keyword::Read),
-                Token::Word(*device),
-                Token::Number(*length),
-            ],
-        ),
+        } => add_transfer(tokens, *tick, Keyword::Read, *device, *length),
         SceneLine::AtWrite {
             tick,
             device,
             length,
-        } => add(
-            tokens,
-            &[
-                key(Keyword::At),
-                Token::Number(*tick),
-                key(Keyword::Write),
-                Token::Word(*device),
-                Token::Number(*length),
-            ],
-        ),
+        } => add_transfer(tokens, *tick, Keyword::Write, *device, *length),
         SceneLine::AtControl {
             tick,
             device,
             code,
             length,
-        } => add(
-            tokens,
-            &[
-                key(Keyword::At),
-                Token::Number(*tick),
-                key(Keyword::Control),
-                Token::Word(*device),
-                Token::Number(*code),
-                Token::Number(*length),
-            ],
-        ),
-        SceneLine::AtCancel { tick, request } => add(
-            tokens,
-            &[
-                key(Keyword::At),
-                Token::Number(*tick),
-                key(Keyword::Cancel),
-                Token::Number(*request),
-            ],
-        ),
-        SceneLine::AtAsk { tick, ask, device } => add(
-            tokens,
-            &[
-                key(Keyword::At),
-                Token::Number(*tick),
-                ask_token(*ask),
-                Token::Word(*device),
-            ],
-        ),
-        SceneLine::Get { variable, register } => add(
-            tokens,
-            &[
-                key(Keyword::Get),
-                Token::Word(*variable),
-                Token::Assign,
-                Token::Word(*register),
-            ],
-        ),
-        SceneLine::Else => add(tokens, &[key(Keyword::Else)]),
+        } => add_control(tokens, *tick, *device, *code, *length),
+        SceneLine::AtCancel { tick, request } => add_cancel(tokens, *tick, *request),
+        SceneLine::AtAsk { tick, ask, device } => add_ask(tokens, *tick, *ask, *device),
+        SceneLine::Get { variable, register } => add_get(tokens, *variable, *register),
+        SceneLine::Else => add_key(tokens, Keyword::Else),
         _ => Ok(()),
     }
 }

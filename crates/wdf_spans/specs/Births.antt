@@ -7,17 +7,10 @@ use Rattle.wdf_base.specs.declared.call.CallKind.TheVariants.{WdfRequestCreate}
 use Rattle.wdf_base.specs.declared.value.Value.{Value}
 use Rattle.wdf_base.specs.declared.value.Value.TheVariants.{Obj}
 use Rattle.wdf_base.specs.declared.event.Post.{Post}
-use Rattle.wdf_base.specs.declared.event.Post.TheVariants as post
 use Rattle.wdf_base.specs.declared.event.Event.{Event}
 use Rattle.wdf_base.specs.declared.event.Event.TheVariants as event
+use Rattle.wdf_base.specs.Posts.{is_request}
 use Rattle.wdf_spans.specs.declared.born.Birth.{Birth}
-
--- a read, a write or a control
-abbrev pub is_arrival : Post → Bool
-is_arrival (post.Read d n) = true
-is_arrival (post.Write d n) = true
-is_arrival (post.Control d c n) = true
-is_arrival _ = false
 
 -- the call that makes a request
 abbrev pub is_making : CallKind → Bool
@@ -26,7 +19,7 @@ is_making _ = false
 
 -- the request that a post made
 abbrev pub arrived : Post → Option Handle → Option Handle
-arrived p answer = if is_arrival p then answer else None
+arrived p answer = if is_request p then answer else None
 
 -- the request that a call made: its answer
 abbrev pub made : Call → Value → Option Handle

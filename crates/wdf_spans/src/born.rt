@@ -1,6 +1,6 @@
 //! How requests come to be: they arrive from an app, or the driver makes them.
 ghost use Rattle.std.specs.Prelude.{◌≡◌};
-ghost use Rattle.wdf_spans.specs.Births.{is_arrival, is_making, arrived, made, request_born, birth_by};
+ghost use Rattle.wdf_spans.specs.Births.{is_making, arrived, made, request_born, birth_by};
 
 use wdf_base::{Call, CallKind, Event, Handle, Post, Value};
 
@@ -10,16 +10,6 @@ pub struct Birth {
     /// The number of the event.
     pub number: u32,
     pub request: Handle,
-}
-
-/// Whether a post is an arrival of a request.
-fn is_arrival(post: &Post) -> bool
-    ensures { result ≡ is_arrival post.now }
-{
-    matches!(
-        post,
-        Post::Read { .. } | Post::Write { .. } | Post::Control { .. }
-    )
 }
 
 /// Whether a call makes a request.
@@ -33,7 +23,7 @@ fn is_making(kind: CallKind) -> bool
 fn arrived(post: &Post, answer: Option<Handle>) -> Option<Handle>
     ensures { result ≡ arrived post.now answer }
 {
-    if is_arrival(post) { answer } else { None }
+    if post.is_request() { answer } else { None }
 }
 
 /// The request that a call made.

@@ -2,6 +2,7 @@ ghost use Rattle.std.specs.Prelude.{◌≡◌, ◌≤◌, ◌==◌, ◌-◌, cou
 ghost use Rattle.std.specs.List.{filter_map};
 ghost use Rattle.wdf_base.specs.declared.declared.PostLine.{PostLine};
 ghost use Rattle.wdf_base.specs.declared.script.AgentInfo.{AgentInfo};
+ghost use Rattle.wdf_base.specs.Posts as posts;
 ghost use Rattle.wdf_model.specs.Plans.{first_device_agent};
 ghost use Rattle.wdf_model.specs.Tables as tables;
 ghost use Rattle.wdf_model.specs.agents.Connector as connector;
@@ -57,26 +58,16 @@ impl Model for Connector {
     ghost invariant = { λ s. s.arrivals.room ≡ 4096 };
 }
 
-/// Whether a post is a read, a write or a control.
-fn is_request(post: &Post) -> bool
-    ensures { result ≡ connector.is_request post.now }
-{
-    matches!(
-        post,
-        Post::Read { .. } | Post::Write { .. } | Post::Control { .. }
-    )
-}
-
 /// How many requests some lines post.
 fn requests_in(lines: &[PostLine]) -> usize
-    ensures { result ≡ count_by (λ (l : PostLine). connector.is_request l.post) lines.now }
+    ensures { result ≡ count_by (λ (l : PostLine). posts.is_request l.post) lines.now }
 {
-    lines.iter().filter(|line| is_request(&line.post)).count()
+    lines.iter().filter(|line| line.post.is_request()).count()
 }
 
 /// How many arrivals connectors may post: as many as may arrive in one run, but for those that the apps post.
 fn room_beside(agents: &[AgentInfo]) -> u64
-    ensures { result ≡ 4096 - sum_by (λ (a : AgentInfo). count_by (λ (l : PostLine). connector.is_request l.post) a.posts) agents.now }
+    ensures { result ≡ 4096 - sum_by (λ (a : AgentInfo). count_by (λ (l : PostLine). posts.is_request l.post) a.posts) agents.now }
 {
     let mut room = u64::from(ARRIVALS);
     for agent in agents {

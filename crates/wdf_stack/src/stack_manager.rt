@@ -13,7 +13,6 @@ use wdf_base::{
     Status, Value, same_object_id,
 };
 use wdf_declared::device_of;
-use wdf_dev::is_query;
 use wdf_model::{AskPost, Phase, StackDevice};
 
 /// The stack manager: it posts each line for the whole chain of the line's device, a post when the one before has ended. It is
@@ -402,7 +401,7 @@ impl StackManager {
     fn note_query(&mut self, callback: Callback, device: ObjectId, value: Value)
         ensures { self.new ≡ manager.query_ended self.old callback device.0 value }
     {
-        if is_query(callback) && !is_success(value) && self.awaits(device) {
+        if callback.is_query() && !is_success(value) && self.awaits(device) {
             self.end_post(true);
         }
     }

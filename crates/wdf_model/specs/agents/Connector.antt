@@ -19,6 +19,7 @@ use Rattle.wdf_base.specs.declared.event.Event.{Event}
 use Rattle.wdf_base.specs.declared.event.Event.TheVariants as event
 use Rattle.wdf_base.specs.Resolved.{apps}
 use Rattle.wdf_base.specs.Same.{same_value}
+use Rattle.wdf_base.specs.Posts.{is_request}
 use Rattle.wdf_model.specs.declared.stack.Arrival.{Arrival}
 use Rattle.wdf_model.specs.declared.stack.Descent.{Descent}
 use Rattle.wdf_model.specs.declared.stack.Descent.TheVariants as descent
@@ -53,13 +54,6 @@ pub record Connector : Type 0 where
   pub sent : List Forwarded
 
 -- ---- the opening
-
--- a read, a write or a control
-abbrev pub is_request : Post → Bool
-is_request (post.Read device length) = true
-is_request (post.Write device length) = true
-is_request (post.Control device code length) = true
-is_request _ = false
 
 -- how many requests the apps of a plan post
 abbrev pub request_lines : Plan → ℕ

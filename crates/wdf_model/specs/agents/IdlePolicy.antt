@@ -21,6 +21,7 @@ use Rattle.wdf_base.specs.declared.event.Post.{Post}
 use Rattle.wdf_base.specs.declared.event.Post.TheVariants as post
 use Rattle.wdf_base.specs.declared.event.Event.{Event}
 use Rattle.wdf_base.specs.declared.event.Event.TheVariants as event
+use Rattle.wdf_base.specs.Callbacks.{is_query}
 use Rattle.wdf_model.specs.Tables.{tick_after, entry, put, lesser, same_id, first_of_list}
 use Rattle.wdf_model.specs.Plans.{device_of, devices_of, first_there}
 use Rattle.wdf_model.specs.State.{object_in}
@@ -121,12 +122,6 @@ ends_asleep asks.Wake = true
 ends_asleep asks.Remove = true
 ends_asleep asks.Surprise = true
 ends_asleep _ = false
-
--- KMDF: a callback by which the driver of a working device may refuse what is asked
-abbrev pub is_query : Callback → Bool
-is_query callback.EvtDeviceQueryStop = true
-is_query callback.EvtDeviceQueryRemove = true
-is_query _ = false
 
 -- KMDF: of a sleeping device it may refuse the removal alone
 abbrev pub is_removal_query : Callback → Bool

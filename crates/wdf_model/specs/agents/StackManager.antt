@@ -5,7 +5,6 @@ use Rattle.wdf_base.specs.declared.plan.Plan.{Plan}
 use Rattle.wdf_base.specs.declared.ids.Handle.{Handle}
 use Rattle.wdf_base.specs.declared.value.Value.{Value}
 use Rattle.wdf_base.specs.declared.call.Callback.{Callback}
-use Rattle.wdf_base.specs.declared.call.Callback.TheVariants as callback
 use Rattle.wdf_base.specs.declared.declared.PostLine.{PostLine}
 use Rattle.wdf_base.specs.declared.event.Ask.{Ask}
 use Rattle.wdf_base.specs.declared.event.Ask.TheVariants as asks
@@ -15,6 +14,7 @@ use Rattle.wdf_base.specs.declared.event.Stage.{Stage}
 use Rattle.wdf_base.specs.declared.event.Stage.TheVariants as stage
 use Rattle.wdf_base.specs.declared.event.Event.{Event}
 use Rattle.wdf_base.specs.declared.event.Event.TheVariants as event
+use Rattle.wdf_base.specs.Callbacks.{is_query}
 use Rattle.wdf_model.specs.declared.enums.Phase.{Phase}
 use Rattle.wdf_model.specs.declared.enums.Phase.TheVariants.{Off, Working, Sleeping, Removed}
 use Rattle.wdf_model.specs.declared.stack.AskPost.{AskPost}
@@ -212,12 +212,6 @@ awaited_drops m phase = elim m.awaited as (λ _. Bool) [
 abbrev pub came_to : StackManager → ℕ → Option Phase → StackManager
 came_to m d None = m
 came_to m d (Some phase) = if awaits m d then ended (with_phase m d phase) (awaited_drops m phase) else with_phase m d phase
-
--- a query that the driver may refuse
-abbrev pub is_query : Callback → Bool
-is_query callback.EvtDeviceQueryStop = true
-is_query callback.EvtDeviceQueryRemove = true
-is_query _ = false
 
 -- own: a refused query ends its post, and drops the rest
 abbrev pub query_ended : StackManager → Callback → ℕ → Value → StackManager

@@ -26,7 +26,7 @@ use Rattle.wdf_base.specs.declared.frame.Frame.{Frame}
 use Rattle.wdf_base.specs.declared.frame.Intent.{Intent}
 use Rattle.wdf_base.specs.declared.frame.Intent.TheVariants as intent
 use Rattle.wdf_base.specs.declared.words.TheConstants.{FAULTS}
-use Rattle.wdf_base.specs.Calls.{signature_of}
+use Rattle.wdf_base.specs.Calls.{is_acquire, is_release, signature_of}
 use Rattle.wdf_base.specs.Same.{same_kind, same_callback, same_call_kind, same_value}
 use Rattle.wdf_base.specs.Lives.{is_cleaned, is_gone}
 use Rattle.wdf_base.specs.Places.{is_due, is_marked, is_owned}
@@ -169,20 +169,6 @@ waits_for_others c = elim c.kind as (λ _. Bool) [
   | call.WdfTimerStop ↦ not (arg_is c.b 0)
   | _ ↦ false
 ]
-
--- the calls that acquire a lock
-abbrev pub is_acquire : CallKind → Bool
-is_acquire call.WdfSpinLockAcquire = true
-is_acquire call.WdfWaitLockAcquire = true
-is_acquire call.WdfInterruptAcquireLock = true
-is_acquire _ = false
-
--- the calls that give a lock back
-abbrev pub is_release : CallKind → Bool
-is_release call.WdfSpinLockRelease = true
-is_release call.WdfWaitLockRelease = true
-is_release call.WdfInterruptReleaseLock = true
-is_release _ = false
 
 -- ---- levels
 

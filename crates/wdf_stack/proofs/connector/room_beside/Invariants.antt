@@ -2,7 +2,7 @@
 use Rattle.std.proofs.Common.{◌≡◌, ◌-◌, count_by, take, sum_by}
 use Rattle.wdf_base.specs.declared.declared.PostLine.{PostLine}
 use Rattle.wdf_base.specs.declared.script.AgentInfo.{AgentInfo}
-use Rattle.wdf_model.specs.agents.Connector.{is_request}
+use Rattle.wdf_base.specs.Posts.{is_request}
 use Rattle.wdf_stack.proofs.connector.room_beside.Given as goal
 
 abbrev pub invariant-loop-agent : goal.invariant-loop-agent
