@@ -11,3 +11,6 @@ pub mod Starting
 pub mod Open
 pub mod Unsettled
 pub mod UnsettledRuns
+pub mod Naming
+pub mod Waiting
+pub mod Calling

@@ -1,3 +1,4 @@
 pub mod States
 pub mod Courses
 pub mod Settled
+pub mod Naming

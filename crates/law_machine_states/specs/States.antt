@@ -1,6 +1,7 @@
 -- What is so at each place of every run, of marks, of objects and those above them, and of frames.
-use Rattle.std.specs.Prelude.{◌≡◌, ◌≢◌, ℕ, zero, suc, ◌==◌, ◌≤◌, true, false, count_by}
+use Rattle.std.specs.Prelude.{◌≡◌, ◌≢◌, ℕ, zero, suc, ◌==◌, ◌≤◌, true, false, count_by, Some}
 use Rattle.wdf_base.specs.declared.call.Callback.TheVariants as callback
+use Rattle.wdf_base.specs.declared.frame.Pending.{Pending}
 use Rattle.wdf_base.specs.Same.{same_callback}
 use Rattle.wdf_base.specs.Lives.{is_cleaned, is_gone, is_past_cleanup}
 use Rattle.wdf_base.specs.Places.{is_due, is_marked, is_owned}
@@ -8,6 +9,7 @@ use Rattle.wdf_model.specs.parts.Tree.{Tree, is_below, life_of, parent_of}
 use Rattle.wdf_model.specs.parts.Cpus.{all_frames, frame_of}
 use Rattle.wdf_model.specs.parts.Requests.{is_cancelled, mark_of, place_of}
 use Rattle.wdf_model.specs.State.{State}
+use Rattle.law_machine_states.specs.Naming.{names}
 
 -- A request that is marked is Owned and isn't cancelled; one whose cancel is due is Owned and is cancelled.
 pub record MarksAgree {A : Type 0} (S : State A) : Type 0 where
@@ -32,3 +34,7 @@ pub record ParentsThere {A : Type 0} (S : State A) : Type 0 where
 pub record FramesBeforeCleanup {A : Type 0} (S : State A) : Type 0 where
   pub early : (f : ℕ) → 1 ≤ count_by (λ x. x == f) (all_frames S.cpus) → same_callback (frame_of S.cpus f).callback callback.EvtDestroyCallback ≡ false
       → is_past_cleanup (life_of S.tree (frame_of S.cpus f).object.id.0) ≡ false
+
+-- What a call names in which a frame waits isn't cleaned or gone.
+pub record WaitsBeforeCleanup {A : Type 0} (S : State A) : Type 0 where
+  pub early : (f : ℕ) (p : Pending) (o : ℕ) → 1 ≤ count_by (λ x. x == f) (all_frames S.cpus) → (frame_of S.cpus f).pending ≡ Some p → names p.call o ≡ true → is_past_cleanup (life_of S.tree o) ≡ false

@@ -1,4 +1,5 @@
-//! Laws over all runs of the machine: what its states agree on of marks, cleanups and frames, and of sequences.
+//! Laws over all runs of the machine: what its states agree on of marks, cleanups and frames, and of sequences; what starts
+//! are allowed by, and what calls name.
 #![tactic(auto)]
 
 pub mod objects;

@@ -1,10 +1,12 @@
-//! Laws over all runs of the machine: what its states agree on of marks, cleanups and frames.
-ghost use Rattle.std.specs.Prelude.{◌≡◌, ℕ, true, List, Option, Some, slice_get, take};
+//! Laws over all runs of the machine: what its states agree on of marks, cleanups and frames; what starts are allowed by,
+//! and what calls name.
+ghost use Rattle.std.specs.Prelude.{◌≡◌, ℕ, true, false, List, Option, Some, slice_get, take};
 ghost use Rattle.wdf_base.specs.Meaning.{Meaning};
 ghost use Rattle.wdf_base.specs.Resolved.{IsResolved};
 ghost use Rattle.wdf_base.specs.declared.plan.Plan.{Plan};
 ghost use Rattle.wdf_base.specs.declared.ids.Cpu.{Cpu};
 ghost use Rattle.wdf_base.specs.declared.ids.Handle.{Handle};
+ghost use Rattle.wdf_base.specs.declared.call.Call.{Call};
 ghost use Rattle.wdf_base.specs.declared.call.Callback.{Callback};
 ghost use Rattle.wdf_base.specs.declared.event.Event.{Event};
 ghost use Rattle.wdf_base.specs.declared.event.Event.TheVariants as event;
@@ -13,7 +15,11 @@ ghost use Rattle.wdf_model.specs.State.{declared_in, declares_in};
 ghost use Rattle.wdf_model.specs.parts.Locks.{is_free_if_any, lock_of_callback};
 ghost use Rattle.wdf_model.specs.rules.Starts.{is_ready_for, level_fits, life_fits};
 ghost use Rattle.wdf_model.specs.rules.Ready.{IsRunOf, state_after};
-ghost use Rattle.law_machine_states.specs.States.{FramesBeforeCleanup, MarksAgree, NothingBelowCleaned, ParentsThere};
+ghost use Rattle.wdf_laws.specs.declared.sign.Sign.TheVariants as sign;
+ghost use Rattle.wdf_laws.specs.Family.{cleaned_above, most_above};
+ghost use Rattle.wdf_laws.specs.Words.{ever};
+ghost use Rattle.law_machine_states.specs.Naming.{call_of, has_objects, may_come_late, names};
+ghost use Rattle.law_machine_states.specs.States.{FramesBeforeCleanup, MarksAgree, NothingBelowCleaned, ParentsThere, WaitsBeforeCleanup};
 
 /// At each place of every run, a request that is marked cancelable is owned and isn't cancelled, and one whose
 /// EvtRequestCancel is due is owned and is cancelled.
@@ -24,6 +30,22 @@ pub fn marks_agree<A>()
 /// At each place of every run, no frame runs on a cleaned or gone object, but for that of a destroy callback.
 pub fn frames_before_cleanup<A>()
     ensures { (plan : Plan) (m : Meaning A) (run : List Event) → IsRunOf plan m run → (n : ℕ) → FramesBeforeCleanup (state_after plan m (take n run)) }
+{}
+
+/// At each place of every run, no frame waits in a call that names an object which is cleaned or gone: an object isn't
+/// cleaned up while a call on it waits.
+pub fn waits_before_cleanup<A>()
+    ensures { (plan : Plan) (m : Meaning A) (run : List Event) → IsRunOf plan m run → (n : ℕ) → WaitsBeforeCleanup (state_after plan m (take n run)) }
+{}
+
+/// In every run, where the row of a call asks for an object, the call's argument is an object that is there, of the kind that
+/// is asked for. So no call names an object that has ended. After the cleanup of an object no call names it, or what is below
+/// it, but for five: WdfObjectReference, WdfObjectDereference, GetContext, SetContext and WdfRequestUnmarkCancelable. All that
+/// is so where a call is answered at once, where it begins to wait, and where its wait is over.
+pub fn calls_name_what_is_there<A>()
+    ensures objects { (plan : Plan) (m : Meaning A) (run : List Event) → IsRunOf plan m run → (n : ℕ) (e : Event) (c : Call) → slice_get run n ≡ Some e → call_of e ≡ Some c → has_objects (state_after plan m (take n run)).tree c ≡ true }
+    ensures ended { (plan : Plan) (m : Meaning A) (run : List Event) → IsRunOf plan m run → (n : ℕ) (e : Event) (c : Call) (o : ℕ) → slice_get run n ≡ Some e → call_of e ≡ Some c → names c o ≡ true → ever (sign.Destroyed o) (take n run) ≡ false }
+    ensures cleaned { (plan : Plan) (m : Meaning A) (run : List Event) → IsResolved plan → IsRunOf plan m run → (n : ℕ) (e : Event) (c : Call) (o : ℕ) → slice_get run n ≡ Some e → call_of e ≡ Some c → names c o ≡ true → may_come_late c.kind ≡ false → cleaned_above plan run (take n run) (most_above plan run) o ≡ false }
 {}
 
 /// At each place of every run, all objects below a cleaned one are cleaned or gone.
