@@ -14,3 +14,4 @@ pub mod UnsettledRuns
 pub mod Naming
 pub mod Waiting
 pub mod Calling
+pub mod Making

@@ -1,6 +1,6 @@
 //! Laws over all runs of the machine: what its states agree on of marks, cleanups and frames; what starts are allowed by,
-//! and what calls name.
-ghost use Rattle.std.specs.Prelude.{◌≡◌, ℕ, true, false, List, Option, Some, slice_get, take};
+//! what calls name, and what a request is that the driver makes.
+ghost use Rattle.std.specs.Prelude.{◌≡◌, ℕ, suc, true, false, List, Option, Some, slice_get, take};
 ghost use Rattle.wdf_base.specs.Meaning.{Meaning};
 ghost use Rattle.wdf_base.specs.Resolved.{IsResolved};
 ghost use Rattle.wdf_base.specs.declared.plan.Plan.{Plan};
@@ -10,14 +10,18 @@ ghost use Rattle.wdf_base.specs.declared.call.Call.{Call};
 ghost use Rattle.wdf_base.specs.declared.call.Callback.{Callback};
 ghost use Rattle.wdf_base.specs.declared.event.Event.{Event};
 ghost use Rattle.wdf_base.specs.declared.event.Event.TheVariants as event;
-ghost use Rattle.wdf_model.specs.Plans.{callback_irql};
+ghost use Rattle.wdf_base.specs.declared.object.Kind.TheVariants as kind;
+ghost use Rattle.wdf_model.specs.Plans.{callback_irql, kind_of_class};
 ghost use Rattle.wdf_model.specs.State.{declared_in, declares_in};
 ghost use Rattle.wdf_model.specs.parts.Locks.{is_free_if_any, lock_of_callback};
 ghost use Rattle.wdf_model.specs.rules.Starts.{is_ready_for, level_fits, life_fits};
 ghost use Rattle.wdf_model.specs.rules.Ready.{IsRunOf, state_after};
 ghost use Rattle.wdf_laws.specs.declared.sign.Sign.TheVariants as sign;
+ghost use Rattle.wdf_laws.specs.declared.sign.Told.{Told};
+ghost use Rattle.wdf_laws.specs.Events.{told};
 ghost use Rattle.wdf_laws.specs.Family.{cleaned_above, most_above};
 ghost use Rattle.wdf_laws.specs.Words.{ever};
+ghost use Rattle.law_machine_states.specs.Making.{IsNewRequest};
 ghost use Rattle.law_machine_states.specs.Naming.{call_of, has_objects, may_come_late, names};
 ghost use Rattle.law_machine_states.specs.States.{FramesBeforeCleanup, MarksAgree, NothingBelowCleaned, ParentsThere, WaitsBeforeCleanup};
 
@@ -68,4 +72,11 @@ pub fn starts_are_allowed<A>()
     ensures life { (plan : Plan) (m : Meaning A) (run : List Event) → IsRunOf plan m run → (n : ℕ) (cpu : Cpu) (c : Callback) (o : Handle) (r : Option Handle) → slice_get run n ≡ Some (event.Start cpu c o r) → life_fits (state_after plan m (take n run)) c o.id.0 ≡ true }
     ensures level { (plan : Plan) (m : Meaning A) (run : List Event) → IsRunOf plan m run → (n : ℕ) (cpu : Cpu) (c : Callback) (o : Handle) (r : Option Handle) → slice_get run n ≡ Some (event.Start cpu c o r) → level_fits (state_after plan m (take n run)) cpu.0 (callback_irql plan c o.id.0) ≡ true }
     ensures lock { (plan : Plan) (m : Meaning A) (run : List Event) → IsRunOf plan m run → (n : ℕ) (cpu : Cpu) (c : Callback) (o : Handle) (r : Option Handle) → slice_get run n ≡ Some (event.Start cpu c o r) → is_free_if_any (state_after plan m (take n run)).locks (lock_of_callback plan c o.id.0 (declared_in plan (state_after plan m (take n run)) o.id.0)) ≡ true }
+{}
+
+/// In every run, a request that the driver makes is new right after the event that makes it. It is Owned and came from no queue.
+/// Its device is the nearest one above it, its form is control, its numbers are 0, and it isn't marked or cancelled. What an
+/// event makes of a class it tells (`told` of the laws of a trace).
+pub fn made_requests_are_new<A>()
+    ensures { (plan : Plan) (m : Meaning A) (run : List Event) → IsRunOf plan m run → (n : ℕ) (e : Event) (t : Told) (class : ℕ) → slice_get run n ≡ Some e → told plan e ≡ Some t → t.class ≡ Some class → kind_of_class plan class ≡ kind.Made → IsNewRequest (state_after plan m (take (suc n) run)).tree (state_after plan m (take (suc n) run)).requests t.object }
 {}
