@@ -1,5 +1,5 @@
 pub mod Words
-pub mod Codes
+pub mod Keys
 pub mod Putting
 pub mod Telling
 pub mod Steps

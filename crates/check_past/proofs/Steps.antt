@@ -1,6 +1,5 @@
 -- What is kept of the events, one event more.
 use Rattle.std.proofs.Common.{◌≡◌, ℕ, suc, ◌+◌, ◌≤◌, Bool, true, false, if◌then◌else◌, nat_eq, count_by, List, [], length, take, slice_get, Option, Some, None, refl, sym, ap, ◌∙◌, arith}
-use Rattle.std.specs.Cmp.Lexicographic.{pointwise}
 use Rattle.std.specs.HashMap.{get}
 use Rattle.std.specs.Map.{lookup}
 use Rattle.std.proofs.lemmas.List.{length-take}
@@ -21,13 +20,13 @@ use Rattle.check_past.specs.declared.signs.Signs.{Signs}
 use Rattle.check_past.specs.declared.lists.Lists.{Lists}
 use Rattle.check_past.specs.Last.{last, stood}
 use Rattle.check_past.specs.Maps.{or_zero, or_false, or_empty, number_at, group_at, put_at, counted}
-use Rattle.check_past.specs.Codes.{code_of, noted_each, number_in, rows_of}
+use Rattle.check_past.specs.Keys.{key_of, same_key, number_of, noted_each, keys_of}
 use Rattle.check_past.specs.Groups.{with_arrival, arrived_for, with_taking, takings_for}
 use Rattle.check_past.specs.Order.{shown_by, with_entry, tail_entry, with_number, tail_number, with_head, heads}
 use Rattle.check_past.specs.Past.{Read, before, is_device_entered, device_of_interrupt}
 use Rattle.check_past.specs.Tables.{AreSigns, AreLists}
 use Rattle.check_past.proofs.Putting.{same_id}
-use Rattle.check_past.proofs.Codes.{sign_noted}
+use Rattle.check_past.proofs.Keys.{sign_noted}
 use Rattle.check_past.proofs.Words.{times_next}
 
 -- ---- signs
@@ -36,7 +35,7 @@ last_more : (p : Sign) (all : List Event) (k : ℕ) (e : Event) → slice_get al
 unfolding last
 last_more p all k e h = let n : k + 1 ≡ suc k = omega arith in rw (n, h) refl
 
-lasts_more : (p : Sign) (all : List Event) (k : ℕ) (e : Event) (was now : ℕ) → slice_get all k ≡ Some e → was ≡ last p all k → now ≡ noted_each (rows_of e) (k + 1) (code_of p) was → now ≡ last p all (k + 1)
+lasts_more : (p : Sign) (all : List Event) (k : ℕ) (e : Event) (was now : ℕ) → slice_get all k ≡ Some e → was ≡ last p all k → now ≡ noted_each (keys_of e) (k + 1) p was → now ≡ last p all (k + 1)
 lasts_more p all k e was now h is step = step ∙ sign_noted p e (k + 1) was ∙ ap (λ n. if shows p e then k + 1 else n) is ∙ last_more p all k e h
 
 stood_more : (p a b : Sign) (all : List Event) (k : ℕ) (e : Event) → slice_get all k ≡ Some e → (if shows p e then stands a b (take k all) else stood p a b all k) ≡ stood p a b all (k + 1)
@@ -71,7 +70,7 @@ times_more p all k e was now h is step =
 pub signs_more : (plan : Plan) (all : List Event) (k : ℕ) (e : Event) (s s' : Signs) (up enabled : Bool) → slice_get all k ≡ Some e → AreSigns plan all k s
     → up ≡ is_device_entered (take k all) (passed stage.QueuesUp e)
     → enabled ≡ is_device_entered (take k all) (device_of_interrupt plan (passed_for stage.Enabled e))
-    → ((q : List ℕ) → number_in s'.lasts q ≡ noted_each (rows_of e) (k + 1) q (number_in s.lasts q))
+    → ((p : Sign) → number_of s'.lasts p ≡ noted_each (keys_of e) (k + 1) p (number_of s.lasts p))
     → ((d : ℕ) → get nat_eq s'.up d ≡ put_at (passed stage.QueuesUp e) up d (get nat_eq s.up d))
     → ((i : ℕ) → get nat_eq s'.enabled i ≡ put_at (passed_for stage.Enabled e) enabled i (get nat_eq s.enabled i))
     → ((o : ℕ) → number_at s'.referenced o ≡ counted (called call.WdfObjectReference e) o (number_at s.referenced o))
@@ -79,7 +78,7 @@ pub signs_more : (plan : Plan) (all : List Event) (k : ℕ) (e : Event) (s s' : 
     → AreSigns plan all (k + 1) s'
 signs_more plan all k e s s' up enabled h was is_up is_enabled lasts ups enableds referenced dereferenced =
     record {
-      last_is = λ p. lasts_more p all k e _ _ h (was.last_is p) (lasts (code_of p));
+      last_is = λ p. lasts_more p all k e _ _ h (was.last_is p) (lasts p);
       up_is = λ d.
           ap or_false (ups d) ∙ ap (λ x. or_false (put_at (passed stage.QueuesUp e) x d (get nat_eq s.up d))) is_up ∙ up_where (take k all) d (passed stage.QueuesUp e) (get nat_eq s.up d)
           ∙ ap (λ x. if is_id d (passed stage.QueuesUp e) then stands (sign.Entered d) (sign.NotEntered d) (take k all) else x) (was.up_is d)
@@ -98,7 +97,7 @@ pub signs_none : (plan : Plan) (all : List Event) (s : Signs) → s.lasts.entrie
 unfolding last stood times
 signs_none plan all s lasts up enabled referenced dereferenced =
     record {
-      last_is = λ p. ap (λ es. or_zero (lookup (pointwise nat_eq (code_of p)) es)) lasts;
+      last_is = λ p. ap (λ es. or_zero (lookup (same_key (key_of p)) es)) lasts;
       up_is = λ d. ap (λ es. or_false (lookup (nat_eq d) es)) up;
       enabled_is = λ i d is. ap (λ es. or_false (lookup (nat_eq i) es)) enabled;
       referenced_is = λ o. ap (λ es. or_zero (lookup (nat_eq o) es)) referenced;

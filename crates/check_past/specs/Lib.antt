@@ -1,6 +1,6 @@
 pub mod Last
 pub mod Maps
-pub mod Codes
+pub mod Keys
 pub mod Kin
 pub mod Groups
 pub mod Order

@@ -9,7 +9,7 @@ use Rattle.wdf_laws.specs.Words.{times}
 use Rattle.check_past.specs.declared.signs.Signs.{Signs}
 use Rattle.check_past.specs.declared.lists.Lists.{Lists}
 use Rattle.check_past.specs.Maps.{number_at, flag_at, group_at}
-use Rattle.check_past.specs.Codes.{code_of, number_in}
+use Rattle.check_past.specs.Keys.{number_of}
 use Rattle.check_past.specs.Last.{last, stood}
 use Rattle.check_past.specs.Groups.{arrived_for, takings_for, children_of}
 use Rattle.check_past.specs.Order.{tail_entry, tail_number, heads}
@@ -18,7 +18,7 @@ use Rattle.check_past.specs.Past.{device_of_interrupt}
 
 -- when each sign came last, what stood then, and how many references were taken and given back
 pub record AreSigns (plan : Plan) (all : List Event) (number : ℕ) (s : Signs) : Type 0 where
-  pub last_is : (p : Sign) → number_in s.lasts (code_of p) ≡ last p all number
+  pub last_is : (p : Sign) → number_of s.lasts p ≡ last p all number
   pub up_is : (d : ℕ) → flag_at s.up d ≡ stood (sign.QueuesUp d) (sign.Entered d) (sign.NotEntered d) all number
   pub enabled_is : (i d : ℕ) → device_of_interrupt plan (Some i) ≡ Some d → flag_at s.enabled i ≡ stood (sign.Enabled i) (sign.Entered d) (sign.NotEntered d) all number
   pub referenced_is : (o : ℕ) → number_at s.referenced o ≡ times (sign.Referenced o) (take number all)

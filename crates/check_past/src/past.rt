@@ -9,7 +9,7 @@ ghost use Rattle.check_past.specs.Past.{before};
 ghost use Rattle.check_past.specs.Groups as groups;
 ghost use Rattle.check_past.specs.Order as order;
 
-use crate::code::{code_of, number_in};
+use crate::key::number_of;
 use crate::kin::Kin;
 use crate::lists::Lists;
 use crate::maps::{flag_at, group_at, number_at};
@@ -119,7 +119,7 @@ impl<'a> Past<'a> {
         ensures value { result ≡ last sign self.now.all self.now.number }
         ensures within { self.now.number ≤ length self.now.all }
     {
-        number_in(&self.signs.lasts, &code_of(sign))
+        number_of(&self.signs.lasts, sign)
     }
 
     /// Whether an event with the sign came.

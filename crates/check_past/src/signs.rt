@@ -1,13 +1,14 @@
 //! When each sign came last.
-ghost use Rattle.std.specs.Prelude.{◌≡◌, ◌+◌, ◌<◌, ◌^◌, ℕ, List, [], OnOk, nat_eq};
+ghost use Rattle.std.specs.Prelude.{◌≡◌, ◌+◌, ◌<◌, ◌^◌, ℕ, [], OnOk, nat_eq};
 ghost use Rattle.std.specs.HashMap.{get};
 ghost use Rattle.wdf_laws.specs.Events as told;
-ghost use Rattle.check_past.specs.Codes as codes;
+ghost use Rattle.wdf_laws.specs.declared.sign.Sign as laws;
+ghost use Rattle.check_past.specs.Keys as keys;
 ghost use Rattle.check_past.specs.Maps as maps;
 ghost use Rattle.wdf_base.specs.declared.call.CallKind.TheVariants as call;
 ghost use Rattle.wdf_base.specs.declared.event.Stage.TheVariants as stage;
 
-use crate::code::{Code, Row, note_each};
+use crate::key::{Key, Kind, key_in_taking, note_each};
 use crate::maps::{Flags, Numbers, number_at, put};
 use check_signs::{
     acknowledged, arrived, begun_for, begun_on, called, called_well, cancel_posted, cleaned,
@@ -21,8 +22,8 @@ use wdf_base::{CallKind, Callback, Event, Memory, Stage};
 /// What is kept of the signs that came.
 #[derive(Drop)]
 pub struct Signs {
-    /// By the code of a sign, the number of the last event with it.
-    pub lasts: HashMap<Code, usize>,
+    /// By the key of a sign, the number of the last event with it.
+    pub lasts: HashMap<Key, usize>,
     /// By device, whether it was entered when its queues went up last.
     pub up: Flags,
     /// By interrupt, whether its device was entered when it was enabled last.
@@ -33,35 +34,35 @@ pub struct Signs {
     pub dereferenced: Numbers,
 }
 
-/// What an event shows of each sign.
-fn rows_of(event: &Event) -> [Row; 24]
-    ensures { result ≡ codes.rows_of event.now }
+/// The keys of the signs that an event shows.
+fn keys_of(event: &Event) -> [Option<Key>; 24]
+    ensures { result ≡ keys.keys_of event.now }
 {
     [
-        Row::Single(0, arrived(event)),
-        Row::Single(1, completed(event)),
-        Row::Pair(2, taken(event)),
-        Row::Single(3, given_up(event)),
-        Row::Single(4, headed(event)),
-        Row::Single(5, headed(event)),
-        Row::Single(5, tailed(event)),
-        Row::Single(6, acknowledged(event)),
-        Row::Single(7, cancel_posted(event)),
-        Row::Single(8, begun_for(Callback::EvtRequestCancel, event)),
-        Row::Single(9, called_well(CallKind::WdfRequestMarkCancelableEx, event)),
-        Row::Single(10, mark_undone(event)),
-        Row::Single(11, passed_for(Stage::Enabled, event)),
-        Row::Single(12, passed_for(Stage::Disabled, event)),
-        Row::Single(13, passed(Stage::QueuesUp, event)),
-        Row::Single(14, passed(Stage::QueuesDown, event)),
-        Row::Single(15, ended_on(Callback::EvtDeviceD0Entry, true, event)),
-        Row::Single(16, ended_on(Callback::EvtDeviceD0Entry, false, event)),
-        Row::Single(16, begun_on(Callback::EvtDeviceD0Exit, event)),
-        Row::Single(17, begun_on(Callback::EvtDeviceD0Exit, event)),
-        Row::Single(18, cleaned(event)),
-        Row::Single(19, destroyed(event)),
-        Row::Single(20, called(CallKind::WdfObjectReference, event)),
-        Row::Single(21, called(CallKind::WdfObjectDereference, event)),
+        Kind::Arrival.key_in(arrived(event)),
+        Kind::Completion.key_in(completed(event)),
+        key_in_taking(taken(event)),
+        Kind::GivingUp.key_in(given_up(event)),
+        Kind::AtHead.key_in(headed(event)),
+        Kind::Entry.key_in(headed(event)),
+        Kind::Entry.key_in(tailed(event)),
+        Kind::Acknowledgement.key_in(acknowledged(event)),
+        Kind::CancelPosted.key_in(cancel_posted(event)),
+        Kind::CancelBegins.key_in(begun_for(Callback::EvtRequestCancel, event)),
+        Kind::Marked.key_in(called_well(CallKind::WdfRequestMarkCancelableEx, event)),
+        Kind::MarkUndone.key_in(mark_undone(event)),
+        Kind::Enabled.key_in(passed_for(Stage::Enabled, event)),
+        Kind::Disabled.key_in(passed_for(Stage::Disabled, event)),
+        Kind::QueuesUp.key_in(passed(Stage::QueuesUp, event)),
+        Kind::QueuesDown.key_in(passed(Stage::QueuesDown, event)),
+        Kind::Entered.key_in(ended_on(Callback::EvtDeviceD0Entry, true, event)),
+        Kind::NotEntered.key_in(ended_on(Callback::EvtDeviceD0Entry, false, event)),
+        Kind::NotEntered.key_in(begun_on(Callback::EvtDeviceD0Exit, event)),
+        Kind::ExitBegins.key_in(begun_on(Callback::EvtDeviceD0Exit, event)),
+        Kind::Cleaned.key_in(cleaned(event)),
+        Kind::Destroyed.key_in(destroyed(event)),
+        Kind::Referenced.key_in(called(CallKind::WdfObjectReference, event)),
+        Kind::Dereferenced.key_in(called(CallKind::WdfObjectDereference, event)),
     ]
 }
 
@@ -108,13 +109,13 @@ impl Signs {
     ) -> Result<(), Memory>
         requires referenced { (o : ℕ) → maps.number_at self.old.referenced o + 1 < 2 ^ 64 }
         requires dereferenced { (o : ℕ) → maps.number_at self.old.dereferenced o + 1 < 2 ^ 64 }
-        ensures lasts { OnOk result ((q : List ℕ) → codes.number_in self.new.lasts q ≡ codes.noted_each (codes.rows_of event.now) number q (codes.number_in self.old.lasts q)) }
+        ensures lasts { OnOk result ((s : laws.Sign) → keys.number_of self.new.lasts s ≡ keys.noted_each (keys.keys_of event.now) number s (keys.number_of self.old.lasts s)) }
         ensures up { OnOk result ((d : ℕ) → get nat_eq self.new.up d ≡ maps.put_at (told.passed stage.QueuesUp event.now) up d (get nat_eq self.old.up d)) }
         ensures enabled { OnOk result ((i : ℕ) → get nat_eq self.new.enabled i ≡ maps.put_at (told.passed_for stage.Enabled event.now) enabled i (get nat_eq self.old.enabled i)) }
         ensures referenced { OnOk result ((o : ℕ) → maps.number_at self.new.referenced o ≡ maps.counted (told.called call.WdfObjectReference event.now) o (maps.number_at self.old.referenced o)) }
         ensures dereferenced { OnOk result ((o : ℕ) → maps.number_at self.new.dereferenced o ≡ maps.counted (told.called call.WdfObjectDereference event.now) o (maps.number_at self.old.dereferenced o)) }
     {
-        note_each(&mut self.lasts, &rows_of(event), number)?;
+        note_each(&mut self.lasts, &keys_of(event), number)?;
         put(&mut self.up, passed(Stage::QueuesUp, event), up)?;
         put(
             &mut self.enabled,
