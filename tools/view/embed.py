@@ -1,8 +1,8 @@
 #!/usr/bin/env python3
 """embed.py [--check]: writes the style and the script of the page of `kmdfview html` into the crate that writes it.
 
-picture.css and picture.js beside this file are the sources; crates/wdf_picture/src/style.rt and script.rt have them line by line.
-With --check nothing is written, and it fails where the two differ."""
+picture.css and picture.js beside this file are the sources; crates/wdf_picture/src/style.rt and script.rt have each as one text, without
+its blank lines. With --check nothing is written, and it fails where the two differ."""
 import os
 import sys
 
@@ -10,20 +10,25 @@ here = os.path.dirname(os.path.abspath(__file__))
 crate = os.path.join(here, "..", "..", "crates", "wdf_picture", "src")
 
 
-def literal(line):
-    for byte in line:
-        if not " " <= byte <= "~":
-            sys.exit(f"not a printable ASCII character in: {line}")
-    return '"' + line.replace("\\", "\\\\").replace('"', '\\"') + '"'
+def literal(lines):
+    for line in lines:
+        for byte in line:
+            if not " " <= byte <= "~":
+                sys.exit(f"not a printable ASCII character in: {line}")
+        if '"#' in line:
+            sys.exit(f"the end of a raw string in: {line}")
+    return 'r#"' + "".join(line + "\n" for line in lines) + '"#'
 
 
 def module(source, name, head):
     with open(os.path.join(here, source), encoding="ascii") as it:
         lines = [line for line in it.read().split("\n") if line.strip()]
-    text = f"//! {head} It is written by `tools/view/embed.py` from `{source}` beside that.\n\n"
-    text += f"/// The lines of it.\npub(crate) const {name}: [&str; {len(lines)}] = [\n"
-    text += "".join(f"    {literal(line)},\n" for line in lines)
-    return text + "];\n"
+    begun = f"pub(crate) const {name}: &str ="
+    text = literal(lines)
+    # The layout of `rt fmt`: a text whose first line is too long beside the name begins on the next line.
+    first = text.split("\n")[0]
+    gap = " " if len(f"{begun} {first}") <= 100 else "\n    "
+    return f"//! {head} It is written by `tools/view/embed.py` from `{source}` beside that.\n\n/// The text of it.\n{begun}{gap}{text};\n"
 
 
 def main():

@@ -178,15 +178,6 @@ fn meaning_of(ending: Ending) -> &'static str {
     }
 }
 
-/// Adds parts of the page that are the same for all runs.
-fn push_parts(page: &mut Page, parts: &[&'static str]) -> Result<(), Memory> {
-    for part in parts {
-        page.markup(part)?;
-        page.markup("\n")?;
-    }
-    Ok(())
-}
-
 /// Adds the head of the page.
 fn push_head(page: &mut Page, plan: &Plan, told: &Told) -> Result<(), Memory>
     requires { length told.now.events.now < 2 ^ 32 }
@@ -196,7 +187,7 @@ fn push_head(page: &mut Page, plan: &Plan, told: &Told) -> Result<(), Memory>
     )?;
     push_ending(page, told)?;
     page.markup("</title>\n<style>\n")?;
-    push_parts(page, &STYLE)?;
+    page.markup(STYLE)?;
     page.markup("</style>\n</head>\n<body>\n<header><h1>")?;
     push_ending(page, told)?;
     page.markup("</h1><p>")?;
@@ -257,7 +248,7 @@ fn push_run(alloc: Global, page: &mut Page, plan: &Plan, events: &[Event]) -> Re
 /// Adds the script, and ends the page.
 fn push_end(page: &mut Page) -> Result<(), Memory> {
     page.markup("<script>\n")?;
-    push_parts(page, &SCRIPT)?;
+    page.markup(SCRIPT)?;
     page.markup("</script>\n</body>\n</html>\n")
 }
 
