@@ -27,17 +27,18 @@ Has h (Line i) = ⊤
 
 -- ---- what stays
 
--- its number, its actions, and which registers are its own
+-- its number, its actions, its clock, and which registers are its own
 pub record Keeps (h g : Device) : Type 0 where
   pub number : g.agent ≡ h.agent
   pub actions : g.actions ≡ h.actions
+  pub clock : g.clock ≡ h.clock
   pub owns : (k : ℕ) → has_register (own_register g k) ≡ has_register (own_register h k)
 
 pub kept : (h : Device) → Keeps h h
-kept h = record { number = refl; actions = refl; owns = λ k. refl }
+kept h = record { number = refl; actions = refl; clock = refl; owns = λ k. refl }
 
 pub then_kept : (h g f : Device) → Keeps h g → Keeps g f → Keeps h f
-then_kept h g f k l = record { number = l.number ∙ k.number; actions = l.actions ∙ k.actions; owns = λ r. l.owns r ∙ k.owns r }
+then_kept h g f k l = record { number = l.number ∙ k.number; actions = l.actions ∙ k.actions; clock = l.clock ∙ k.clock; owns = λ r. l.owns r ∙ k.owns r }
 
 either_kept : (b : Bool) (h x y : Device) → Keeps h x → Keeps h y → Keeps h (if b then x else y)
 either_kept true h x y k l = k
@@ -59,6 +60,7 @@ register_kept h r v = by (has_register (own_register h r)) refl
     by true own = record {
       number = refl;
       actions = refl;
+      clock = refl;
       owns = λ k. ap has_register (entry_put None h.registers r k (Some v))
           ∙ written_by (own_register h k) v (k == r) (λ e. let same : k ≡ r = eqb-true k r e in ap (λ n. has_register (own_register h n)) same ∙ own);
     }
@@ -66,8 +68,8 @@ register_kept h r v = by (has_register (own_register h r)) refl
 
 pub act_kept : (h : Device) (a : Action) → Keeps h (act_on h a)
 act_kept h (action.Set k v) = register_kept h k v
-act_kept h (action.Raise i) = record { number = refl; actions = refl; owns = λ k. refl }
-act_kept h (action.Lower i) = record { number = refl; actions = refl; owns = λ k. refl }
+act_kept h (action.Raise i) = record { number = refl; actions = refl; clock = refl; owns = λ k. refl }
+act_kept h (action.Lower i) = record { number = refl; actions = refl; clock = refl; owns = λ k. refl }
 
 pub stored_kept : (a : Access) (r v : ℕ) (h : Device) → Keeps h (device.stored a r v h)
 stored_kept access.Read r v h = kept h

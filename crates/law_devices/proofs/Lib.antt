@@ -6,3 +6,5 @@ pub mod Reading
 pub mod Told
 pub mod Laws
 pub mod Programs
+pub mod Ticks
+pub mod Posted

@@ -14,6 +14,7 @@ use Rattle.wdf_model.specs.declared.entries.DeviceAction.{DeviceAction}
 use Rattle.wdf_model.specs.agents.Device.{among, at_action, device_at, has_register, register_of, when_action}
 use Rattle.wdf_model.proofs.Counts.{equal}
 use Rattle.law_machine_lives.proofs.Lists.{Each}
+use Rattle.law_devices.specs.Posting.{clock_told}
 use Rattle.law_devices.specs.Shown.{Shown, Register, Line, value_told}
 use Rattle.law_devices.proofs.Acts.{held, line_of}
 use Rattle.law_devices.proofs.Steps.{Knows, is_on, shower}
@@ -41,7 +42,7 @@ declares d (Some r) is = let same : r.device.0 ≡ d = cc in let yes : (r.device
 -- ---- `when` lines
 
 -- none of these actions has a `when` line
-abbrev AreAt : List DeviceAction → Type 0
+abbrev pub AreAt : List DeviceAction → Type 0
 AreAt ls = Each (λ (l : DeviceAction). l.trigger ≡ None) ls
 
 in_order_lines : (l : DeviceAction) (ls : List DeviceAction) → l.trigger ≡ None → filter_map line_of (among ls l) ≡ filter_map line_of ls
@@ -65,7 +66,7 @@ one_at (post.Cancel j) tick line ls at = at
 one_at (post.Ask a x) tick line ls at = at
 one_at (post.Done r s) tick line ls at = at
 
-all_at : (ps : List PostLine) → AreAt (filter_map at_action ps)
+pub all_at : (ps : List PostLine) → AreAt (filter_map at_action ps)
 all_at [] = tt
 all_at (p ∷ ps) = one_at p.post p.tick p.line (filter_map at_action ps) (all_at ps)
 
@@ -78,9 +79,10 @@ whens_of plan d (w ∷ ws) = by (is_on plan d w) refl (whens_of plan d ws)
     by false e rest = rw e rest
 
 pub knows_first : (plan : Plan) (d k : ℕ) → Knows plan d k [] (device_at plan d k)
-unfolding value_told
+unfolding value_told clock_told
 knows_first plan d k = record {
   number = refl;
+  clock = refl;
   owns = λ r. ap has_register (at_index d plan.registers r) ∙ is_own d (slice_get plan.registers r);
   lines = all_among (filter_map at_action (posts_of plan k)) (filter_map (when_action plan d) plan.whens) (all_at (posts_of plan k)) ∙ whens_of plan d plan.whens;
   values = values;

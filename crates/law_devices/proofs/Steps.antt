@@ -26,6 +26,7 @@ use Rattle.wdf_model.specs.agents.Device.{Device, accessed, act_on, at_once, del
 use Rattle.wdf_model.specs.agents.Device as device
 use Rattle.wdf_model.proofs.Counts.{equal}
 use Rattle.wdf_model.proofs.Tests.{both_left, both_right, itself}
+use Rattle.law_devices.specs.Posting.{clock_told, tick_by}
 use Rattle.law_devices.specs.Shown.{Shown, Register, Line, acted, first_value, given, set_at_once, stored, value_by, value_told}
 use Rattle.law_devices.proofs.Acts.{Has, act_held, act_kept, has_still, held, line_of, once_held, once_kept, stored_held, stored_kept}
 
@@ -45,6 +46,7 @@ is_on plan d w = device_of_register plan w.register == d
 -- what is known of device d, whose agent has this number, after these events
 pub record Knows (plan : Plan) (d k : ℕ) (es : List Event) (h : Device) : Type 0 where
   pub number : h.agent ≡ k
+  pub clock : h.clock ≡ clock_told es
   pub owns : (r : ℕ) → has_register (own_register h r) ≡ is_its plan d r
   pub lines : filter_map line_of h.actions ≡ filter (is_on plan d) plan.whens
   pub values : (x : Shown) → shower plan x ≡ Some d → held h x ≡ value_told plan x es
@@ -52,6 +54,10 @@ pub record Knows (plan : Plan) (d k : ℕ) (es : List Event) (h : Device) : Type
 told_more : (plan : Plan) (x : Shown) (es : List Event) (e : Event) → value_told plan x (es ++ e ∷ []) ≡ value_by plan x (value_told plan x es) e
 unfolding value_told
 told_more plan x es e = fold-append (value_by plan x) (first_value plan x) es (e ∷ [])
+
+clock_more : (es : List Event) (e : Event) → clock_told (es ++ e ∷ []) ≡ tick_by (clock_told es) e
+unfolding clock_told
+clock_more es e = fold-append tick_by 0 es (e ∷ [])
 
 -- ---- lists of actions
 
@@ -80,7 +86,7 @@ same_is : (o : Option ℕ) (d : ℕ) → same_option ◌==◌ o (Some d) ≡ tru
 same_is None d h = absurd (let z : ⊥ = cc in z)
 same_is (Some x) d h = ap Some (eqb-true x d h)
 
-same_if : (o : Option ℕ) (d : ℕ) → o ≡ Some d → same_option ◌==◌ o (Some d) ≡ true
+pub same_if : (o : Option ℕ) (d : ℕ) → o ≡ Some d → same_option ◌==◌ o (Some d) ≡ true
 same_if o d h = rw h (itself d)
 
 -- an action of another device gives it nothing
@@ -174,8 +180,8 @@ module _ (plan : Plan) (is_resolved : IsResolved plan) (d k : ℕ) (es : List Ev
   has_own (Line i) is = tt
 
   -- an event that tells nothing of it
-  stays : (e : Event) → ((x : Shown) → shower plan x ≡ Some d → value_by plan x (value_told plan x es) e ≡ value_told plan x es) → Knows plan d k (es ++ e ∷ []) h
-  stays e calm = record { number = knows.number; owns = knows.owns; lines = knows.lines; values = λ x is. knows.values x is ∙ sym (calm x is) ∙ sym (told_more plan x es e) }
+  stays : (e : Event) → tick_by (clock_told es) e ≡ clock_told es → ((x : Shown) → shower plan x ≡ Some d → value_by plan x (value_told plan x es) e ≡ value_told plan x es) → Knows plan d k (es ++ e ∷ []) h
+  stays e still calm = record { number = knows.number; clock = knows.clock ∙ sym still ∙ sym (clock_more es e); owns = knows.owns; lines = knows.lines; values = λ x is. knows.values x is ∙ sym (calm x is) ∙ sym (told_more plan x es e) }
 
   accessed_knows : (cpu : Cpu) (a : Access) (r v : ℕ) (own : Bool) → has_register (own_register h r) ≡ own → Knows plan d k (es ++ event.Register cpu a r v ∷ []) (if own then accessed a r (device.stored a r v h) else h)
   accessed_knows cpu a r v true own =
@@ -187,6 +193,7 @@ module _ (plan : Plan) (is_resolved : IsResolved plan) (d k : ℕ) (es : List Ev
       let same : filter_map line_of g.actions ≡ filter (is_on plan d) plan.whens = ap (filter_map line_of) s.actions ∙ knows.lines in
       record {
         number = o.number ∙ s.number ∙ knows.number;
+        clock = o.clock ∙ s.clock ∙ knows.clock ∙ sym (clock_more es (event.Register cpu a r v));
         owns = λ q. o.owns q ∙ s.owns q ∙ knows.owns q;
         lines = ap (filter_map line_of) o.actions ∙ off_lines a r g.clock g.actions ∙ same;
         values = λ x is.
@@ -198,7 +205,7 @@ module _ (plan : Plan) (is_resolved : IsResolved plan) (d k : ℕ) (es : List Ev
       }
   accessed_knows cpu a r v false own =
       let other : resolved.device_of_register plan r ≢ Some d = λ is. let yes : has_register (own_register h r) ≡ true = knows.owns r ∙ same_if (resolved.device_of_register plan r) d is in let z : ⊥ = cc in z in
-      stays (event.Register cpu a r v) (λ x is.
+      stays (event.Register cpu a r v) refl (λ x is.
       ap (λ n. fold (set_at_once x a r) n plan.whens) (other_stored plan d x a r is other v (value_told plan x es)) ∙ other_lines plan d x a r is other plan.whens (value_told plan x es) is_resolved.whens_fit)
 
   -- what is so of a post: the device's own is its first action that is due, and another agent's is of another device
@@ -212,6 +219,7 @@ module _ (plan : Plan) (is_resolved : IsResolved plan) (d k : ℕ) (es : List Ev
       let kept = act_kept g l.action in
       record {
         number = kept.number ∙ knows.number;
+        clock = kept.clock ∙ knows.clock ∙ sym (clock_more es (event.Posted agent (post.Act l.action) answer));
         owns = λ q. kept.owns q ∙ knows.owns q;
         lines = ap (filter_map line_of) kept.actions ∙ done_lines h.clock h.actions ∙ knows.lines;
         values = λ x is. act_held g x l.action (has_own_done x is) ∙ ap (λ n. acted x n l.action) (knows.values x is) ∙ sym (told_more plan x es (event.Posted agent (post.Act l.action) answer));
@@ -225,7 +233,7 @@ module _ (plan : Plan) (is_resolved : IsResolved plan) (d k : ℕ) (es : List Ev
   posted_knows agent p answer is true e =
       let due = is.0 (eqb-true agent h.agent e ∙ knows.number) in
       rw (due.1, due.2) (acts_knows agent answer due.0)
-  posted_knows agent p answer is false e = stays (event.Posted agent p answer) (by_post p is.1)
+  posted_knows agent p answer is false e = stays (event.Posted agent p answer) refl (by_post p is.1)
     where
       by_post : (q : Post) → ((a : Action) → q ≡ post.Act a → (action_fits plan (device_of_agent plan agent) a ≡ true) × (agent ≢ k → device_of_agent plan agent ≢ Some d))
           → (x : Shown) → shower plan x ≡ Some d → value_by plan x (value_told plan x es) (event.Posted agent q answer) ≡ value_told plan x es
@@ -243,5 +251,5 @@ module _ (plan : Plan) (is_resolved : IsResolved plan) (d k : ℕ) (es : List Ev
   pub knows_more : (e : Event) → IsPostIf e → Knows plan d k (es ++ e ∷ []) (device_after h e)
   knows_more (event.Register cpu a r v) is = accessed_knows cpu a r v (has_register (own_register h r)) refl
   knows_more (event.Posted agent p answer) is = posted_knows agent p answer is (agent == h.agent) refl
-  knows_more (event.Tick time) is = record { number = knows.number; owns = knows.owns; lines = knows.lines; values = λ x s. knows.values x s ∙ sym (told_more plan x es (event.Tick time)) }
-  knows_more e is = stays e (λ x s. refl)
+  knows_more (event.Tick time) is = record { number = knows.number; clock = sym (clock_more es (event.Tick time)); owns = knows.owns; lines = knows.lines; values = λ x s. knows.values x s ∙ sym (told_more plan x es (event.Tick time)) }
+  knows_more e is = stays e refl (λ x s. refl)

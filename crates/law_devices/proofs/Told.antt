@@ -1,8 +1,9 @@
 -- At each place of every run the agent of each device knows what the events before tell.
-use Rattle.std.proofs.Common.{◌≡◌, ◌⊎◌, inl, inr, ℕ, zero, suc, ◌+◌, ◌<◌, true, ◌&&◌, List, [], ◌∷◌, ◌++◌, map, take, Option, Some, None, option_map, slice_get, refl, sym, ap, ◌∙◌, subst, arith}
+use Rattle.std.proofs.Common.{◌≡◌, ◌⊎◌, inl, inr, ℕ, zero, suc, ◌+◌, ◌<◌, true, ◌&&◌, List, [], ◌∷◌, ◌++◌, map, fold, take, Option, Some, None, option_map, slice_get, refl, sym, ap, ◌∙◌, subst, arith}
 use Rattle.std.specs.Prelude.{option_and_then}
 use Rattle.std.specs.List.{range_with_len}
 use Rattle.std.proofs.lemmas.Option.{slice_get-map}
+use Rattle.std.proofs.lemmas.List.Sums.{fold-append}
 use Rattle.wdf_base.specs.Meaning.{Meaning}
 use Rattle.wdf_base.specs.Resolved.{IsResolved}
 use Rattle.wdf_base.specs.Same.{same_handle, same_option, same_post}
@@ -48,6 +49,8 @@ module _ {A : Type 0} (plan : Plan) (resolved : IsResolved plan) (m : Meaning A)
     pub now : Device
     pub is : device agent ≡ Some now
     pub knows : Knows plan d k es now
+    -- what it heard
+    pub history : now ≡ fold device_after (device_at plan d k) es
 
   -- each device is among the agents
   abbrev pub AllKnow : List Event → List A → Type 0
@@ -66,6 +69,7 @@ module _ {A : Type 0} (plan : Plan) (resolved : IsResolved plan) (m : Meaning A)
         now = device_at plan d k;
         is = has.begins plan k d own;
         knows = knows_first plan d k;
+        history = refl;
       }
 
   -- ---- one event more
@@ -82,6 +86,7 @@ module _ {A : Type 0} (plan : Plan) (resolved : IsResolved plan) (m : Meaning A)
       now = device_after i.now e;
       is = has.hears i.agent i.now e i.is;
       knows = knows_more plan resolved d k es i.now i.knows e (fits k d own);
+      history = ap (λ h. device_after h e) i.history ∙ sym (fold-append device_after (device_at plan d k) es (e ∷ []));
     }
 
     -- no agent hears of a step inside a frame
@@ -92,6 +97,7 @@ module _ {A : Type 0} (plan : Plan) (resolved : IsResolved plan) (m : Meaning A)
       now = i.now;
       is = i.is;
       knows = subst (Knows plan d k (es ++ e ∷ [])) (still i.now) (knows_more plan resolved d k es i.now i.knows e (fits k d own));
+      history = sym (still i.now) ∙ ap (λ h. device_after h e) i.history ∙ sym (fold-append device_after (device_at plan d k) es (e ∷ []));
     }
 
     next : (e : Event) → PostsFit e → AllKnow (es ++ e ∷ []) (told m e S.agents)
@@ -114,12 +120,12 @@ module _ {A : Type 0} (plan : Plan) (resolved : IsResolved plan) (m : Meaning A)
         )
     posts_fit _ h k d own = tt
 
+  pub fits_at : (S : State A) (offered es : List Event) (all : AllKnow es S.agents) (e : Event) → (may plan m S e ≡ true) ⊎ IsTick m S offered e → PostsFit S es all e
+  fits_at S offered es all e (inl h) = posts_fit S es all e h
+  fits_at S offered es all e (inr t) = subst (PostsFit S es all) (sym t.tick) (λ k d own. tt)
+
   next_at : (S : State A) (offered es : List Event) (e : Event) → (may plan m S e ≡ true) ⊎ IsTick m S offered e → AllKnow es S.agents → AllKnow (es ++ e ∷ []) (after plan m S e).agents
-  next_at S offered es e comes all = subst (AllKnow (es ++ e ∷ [])) (sym (agents_told plan m S e)) (next S es all e (fits comes))
-    where
-      fits : (may plan m S e ≡ true) ⊎ IsTick m S offered e → PostsFit S es all e
-      fits (inl h) = posts_fit S es all e h
-      fits (inr t) = subst (PostsFit S es all) (sym t.tick) (λ k d own. tt)
+  next_at S offered es e comes all = subst (AllKnow (es ++ e ∷ [])) (sym (agents_told plan m S e)) (next S es all e (fits_at S offered es all e comes))
 
   -- ---- each place
 

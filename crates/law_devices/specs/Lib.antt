@@ -1,2 +1,3 @@
 pub mod Shown
 pub mod Agents
+pub mod Posting

@@ -55,8 +55,7 @@ value_by plan x before _ = before
 
 -- ---- what the events of a run make of it
 
--- its value at the opening: a register has the one that the scenario declares, 0 where it declares none; a level line is 0
--- (own)
+-- its value at the opening: a register has the one that the scenario declares, a level line is 0 (own)
 abbrev pub first_value : Plan → Shown → ℕ
 first_value plan (Register k) = unwrap_or (option_map (λ r. r.value) (slice_get plan.registers k)) 0
 first_value plan (Line i) = 0
