@@ -23,19 +23,20 @@ use Rattle.wdf_base.specs.declared.event.Access.TheVariants as access
 use Rattle.wdf_base.specs.declared.event.Event.{Event}
 use Rattle.wdf_base.specs.declared.event.Event.TheVariants as event
 use Rattle.wdf_model.specs.Plans.{agent_of_device, as_device, as_interrupt, device_of, device_of_register, interrupt_of}
-use Rattle.wdf_model.specs.State.{State}
+use Rattle.wdf_model.specs.State.{State, declares_in}
 use Rattle.wdf_model.specs.agents.Device.{Device, device_value}
 use Rattle.wdf_model.specs.parts.Interrupts.{is_enabled}
 use Rattle.wdf_model.specs.rules.Ready.{IsRunOf, state_after}
-use Rattle.wdf_model.specs.rules.Starts.{device_of_interrupt, is_ready_for, line_is_up, line_number, shown, value_of_agent}
-use Rattle.wdf_model.proofs.Tests.{both_left}
+use Rattle.wdf_model.specs.rules.Starts.{device_of_interrupt, is_ready_for, line_is_up, line_number, may_start, shown, value_of_agent}
+use Rattle.wdf_model.proofs.Tests.{both_left, both_right}
 use Rattle.law_trace_power.proofs.Belonging as belonging
-use Rattle.law_trace_power.proofs.Laws.{comes_by, ready_at}
+use Rattle.law_trace_power.proofs.Laws.{comes_by}
 use Rattle.law_devices.specs.Agents.{HasDevices}
 use Rattle.law_devices.specs.Shown.{Shown, Register, Line, value_told}
 use Rattle.law_devices.proofs.Acts.{held}
 use Rattle.law_devices.proofs.Numbers.{is_agent}
 use Rattle.law_devices.proofs.Reading.{all_at, is_read}
+use Rattle.law_devices.proofs.Routines.{is_interrupt}
 use Rattle.law_devices.proofs.Steps.{shower}
 use Rattle.law_devices.proofs.Told.{all_know}
 
@@ -100,7 +101,12 @@ module _ {A : Type 0} (plan : Plan) (m : Meaning A) (device : A → Option Devic
   routine_by cpu o None h = both_left (line_is_up plan m S o) (is_enabled S.interrupts o) h
   routine_by cpu o (Some r) h = absurd (let z : ⊥ = cc in z)
 
-  pub routine_told : (cpu : Cpu) (o : Handle) (r : Option Handle) → slice_get run n ≡ Some (event.Start cpu callback.EvtInterruptIsr o r) → is_some (interrupt_of plan o.id.0) ≡ true → value_told plan (Line o.id.0) (take n run) ≡ 1
-  routine_told cpu o r at there =
-      let up : line_is_up plan m S o.id.0 ≡ true = routine_by cpu.0 o.id.0 r (ready_at plan m run n cpu callback.EvtInterruptIsr o r is_run at) in
-      sym (line_at o.id.0 there) ∙ eqb-true (shown plan m S (device_of_interrupt plan o.id.0) (line_number o.id.0)) 1 up
+  pub routine_told : (cpu : Cpu) (o : Handle) (r : Option Handle) → slice_get run n ≡ Some (event.Start cpu callback.EvtInterruptIsr o r) → value_told plan (Line o.id.0) (take n run) ≡ 1
+  routine_told cpu o r at = elim (comes_by plan m run n (event.Start cpu callback.EvtInterruptIsr o r) is_run at) [
+    | inl h ↦
+        let start : may_start plan m S cpu.0 callback.EvtInterruptIsr o.id.0 r ≡ true = both_right _ (may_start plan m S cpu.0 callback.EvtInterruptIsr o.id.0 r) h in
+        let there : declares_in plan S callback.EvtInterruptIsr o.id.0 ≡ true = search both_left in
+        let due : is_ready_for plan m S cpu.0 callback.EvtInterruptIsr o.id.0 r ≡ true = both_right _ (is_ready_for plan m S cpu.0 callback.EvtInterruptIsr o.id.0 r) start in
+        sym (line_at o.id.0 (is_interrupt plan S o.id.0 is_resolved there)) ∙ eqb-true (shown plan m S (device_of_interrupt plan o.id.0) (line_number o.id.0)) 1 (routine_by cpu.0 o.id.0 r due)
+    | inr t ↦ absurd (let e = t.tick in let z : ⊥ = cc in z)
+  ]

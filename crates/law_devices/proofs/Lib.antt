@@ -8,3 +8,4 @@ pub mod Laws
 pub mod Programs
 pub mod Ticks
 pub mod Posted
+pub mod Routines

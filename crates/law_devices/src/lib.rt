@@ -49,12 +49,11 @@ pub fn reads_are_told<A>()
         → (n : ℕ) (cpu : Cpu) (k v : ℕ) → slice_get run n ≡ Some (event.Register cpu access.Read k v) → v ≡ value_told plan (Register k) (take n run) }
 {}
 
-/// In every run the service routine of an interrupt starts only while its level line is 1: of the actions on the line that came
-/// so far, the last raised it.
+/// In every run a service routine starts only while the level line of its interrupt is 1: of the actions on the line that came so
+/// far, the last raised it.
 pub fn routines_start_by_their_lines<A>()
     ensures { (plan : Plan) (m : Meaning A) (device : A → Option Device) (run : List Event) → HasDevices m device → IsResolved plan → IsRunOf plan m run
-        → (n : ℕ) (cpu : Cpu) (o : Handle) (r : Option Handle) → slice_get run n ≡ Some (event.Start cpu callback.EvtInterruptIsr o r)
-        → is_some (interrupt_of plan o.id.0) ≡ true → value_told plan (Line o.id.0) (take n run) ≡ 1 }
+        → (n : ℕ) (cpu : Cpu) (o : Handle) (r : Option Handle) → slice_get run n ≡ Some (event.Start cpu callback.EvtInterruptIsr o r) → value_told plan (Line o.id.0) (take n run) ≡ 1 }
 {}
 
 /// At each place of every run each register of the plan, and the level line of each interrupt, shows the value that the events
