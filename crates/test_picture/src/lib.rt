@@ -5,8 +5,6 @@
 #[cfg(test)]
 mod bands;
 #[cfg(test)]
-mod events;
-#[cfg(test)]
 mod frames;
 #[cfg(test)]
 mod json;
@@ -14,3 +12,5 @@ mod json;
 mod requests;
 #[cfg(test)]
 mod trials;
+#[cfg(test)]
+mod worked;
