@@ -6,3 +6,4 @@ pub mod Empty
 pub mod Entering
 pub mod Purged
 pub mod Withdrawn
+pub mod Closing

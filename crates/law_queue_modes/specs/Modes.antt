@@ -1,4 +1,5 @@
--- The modes of queues, read off the events of a run alone; what waits in a queue that is Purged, and what a purge leaves.
+-- The modes of queues, read off the events of a run alone; what waits in a queue that is Purged, and what a purge and the closing
+-- of a device leave.
 use Rattle.std.specs.Prelude.{if◌then◌else◌, ◌≡◌, ◌≢◌, ℕ, ◌==◌, Bool, true, false, ◌&&◌, List, [], fold, Option, Some, None, is_some}
 use Rattle.std.specs.List.{list_any}
 use Rattle.wdf_base.specs.declared.plan.Plan.{Plan}
@@ -8,13 +9,15 @@ use Rattle.wdf_base.specs.declared.call.CallKind.TheVariants as call
 use Rattle.wdf_base.specs.declared.event.Event.{Event}
 use Rattle.wdf_base.specs.declared.event.Event.TheVariants as event
 use Rattle.wdf_base.specs.declared.event.Stage.TheVariants as stage
+use Rattle.wdf_base.specs.declared.object.Place.TheVariants as place
+use Rattle.wdf_base.specs.declared.value.Status.TheVariants as status
 use Rattle.wdf_base.specs.Places.{is_queued_in}
 use Rattle.wdf_base.specs.Same.{same_stage}
 use Rattle.wdf_model.specs.declared.enums.Mode.{Mode}
 use Rattle.wdf_model.specs.declared.enums.Mode.TheVariants.{Started, Stopped, Drained, Purged}
-use Rattle.wdf_model.specs.Plans.{device_of_queue, queue_of}
+use Rattle.wdf_model.specs.Plans.{device_of_queue, is_queue_of, queue_of}
 use Rattle.wdf_model.specs.parts.Control.{mode_of}
-use Rattle.wdf_model.specs.parts.Requests.{is_cancelled, place_of, request_of}
+use Rattle.wdf_model.specs.parts.Requests.{is_cancelled, is_in, place_of, request_of}
 use Rattle.wdf_model.specs.parts.Queues.{waiting_in}
 use Rattle.wdf_model.specs.State.{State, object_in, withdrawn_place}
 use Rattle.law_machine_deeds.specs.MayDo.{purges}
@@ -95,3 +98,10 @@ pub record PurgeLeaves {A : Type 0} (plan : Plan) (q : ℕ) (before after : Stat
   pub cancelled : (r : ℕ) → is_queued_in q (place_of before.requests r) ≡ true → (is_cancelled after.requests r ≡ true) × (place_of after.requests r ≡ withdrawn_place plan before q r)
   -- every other request stays as it is, so also what the driver holds
   pub others : (r : ℕ) → is_queued_in q (place_of before.requests r) ≡ false → request_of after.requests r ≡ request_of before.requests r
+
+-- What the closing of device d leaves of requests, from the state before it to the state after it.
+pub record CloseLeaves {A : Type 0} (plan : Plan) (d : ℕ) (before after : State A) : Type 0 where
+  -- each request that waited in a queue of the device, or was to return from one to the driver, is to be completed with CANCELLED
+  pub cancelled : (r q : ℕ) → is_queue_of d (queue_of plan q) ≡ true → is_in q (place_of before.requests r) ≡ true → place_of after.requests r ≡ place.Closing status.Cancelled
+  -- every other request stays as it is, so also what the driver holds
+  pub others : (r : ℕ) → ((q : ℕ) → is_queue_of d (queue_of plan q) ≡ true → is_in q (place_of before.requests r) ≡ false) → request_of after.requests r ≡ request_of before.requests r

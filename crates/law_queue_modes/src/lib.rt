@@ -1,4 +1,5 @@
-//! Laws over all runs of the machine: each queue has the mode that the events tell, and what a purge leaves.
+//! Laws over all runs of the machine: each queue has the mode that the events tell, and what a purge and the
+//! closing of a device leave.
 #![tactic(auto)]
 
 ghost use Rattle.std.specs.Prelude.{◌≡◌, ℕ, suc, true, List, [], Some, is_some, slice_get, take};
@@ -9,7 +10,7 @@ ghost use Rattle.wdf_model.specs.declared.enums.Mode.TheVariants.{Purged};
 ghost use Rattle.wdf_model.specs.Plans.{device_of_queue, queue_of};
 ghost use Rattle.wdf_model.specs.parts.Queues.{waiting_in};
 ghost use Rattle.wdf_model.specs.rules.Ready.{IsRunOf, state_after};
-ghost use Rattle.law_queue_modes.specs.Modes.{ModesAsTold, PurgeLeaves, PurgedAreEmpty, is_purge_of, mode_told};
+ghost use Rattle.law_queue_modes.specs.Modes.{CloseLeaves, ModesAsTold, PurgeLeaves, PurgedAreEmpty, closes, is_purge_of, mode_told};
 
 /// At each place of every run, the mode of a queue is that of the last control call to it, Started before the first. A call
 /// that waits gives its mode as it begins to wait. From its device's stage `closed` on a queue is Purged, for good.
@@ -31,4 +32,11 @@ pub fn purged_queues_are_empty<A>()
 pub fn purges_cancel_what_waits<A>()
     ensures { (plan : Plan) (m : Meaning A) (run : List Event) → IsRunOf plan m run → (n q : ℕ) (e : Event) → slice_get run n ≡ Some e → is_purge_of q e ≡ true
         → PurgeLeaves plan q (state_after plan m (take n run)) (state_after plan m (take (suc n) run)) }
+{}
+
+/// In every run, right after a device's stage `closed` each request that waited in a queue of the device, or was to return from one
+/// to the driver, is to be completed with CANCELLED. Every other request stays as it is, so also what the driver holds.
+pub fn closings_cancel_what_waits<A>()
+    ensures { (plan : Plan) (m : Meaning A) (run : List Event) → IsRunOf plan m run → (n d : ℕ) (e : Event) → slice_get run n ≡ Some e → closes d e ≡ true
+        → CloseLeaves plan d (state_after plan m (take n run)) (state_after plan m (take (suc n) run)) }
 {}

@@ -1,0 +1,10 @@
+pub mod Kept
+pub mod Hearing
+pub mod There
+pub mod Found
+pub mod Runs
+pub mod Agents
+pub mod Numbers
+pub mod Ticks
+pub mod InTime
+pub mod Cancels
