@@ -69,7 +69,7 @@ pub begins_as : (plan : Plan) (k t : ℕ) → target_of_agent plan k ≡ Some t 
 begins_as plan k t h = let l = last plan k t h in rw (l.zeroth, l.app, l.device, h) refl
 
 abbrev pub usual_target : (plan : Plan) (k t : ℕ) → target_of_agent plan k ≡ Some t → IsTargetAgent plan usual.agent_meaning k t
-usual_target plan k t h = record { number = h; seen = seen; begins = ap seen (begins_as plan k t h); folds = seen_after; dues = seen_due }
+usual_target plan k t h = record { number = h; seen = seen; begins = ap seen (begins_as plan k t h); hears = seen_after; posts = seen_due }
 
 -- ---- where idle devices sleep
 
@@ -89,7 +89,7 @@ idle_begins : (plan : Plan) (k t : ℕ) → target_of_agent plan k ≡ Some t �
 idle_begins plan k t h = let l = last plan k t h in rw (l.zeroth, l.app, l.device, h) refl
 
 pub idle_target : (plan : Plan) (k t : ℕ) → target_of_agent plan k ≡ Some t → IsTargetAgent plan idle.idle_meaning k t
-idle_target plan k t h = record { number = h; seen = seen_idle; begins = idle_begins plan k t h; folds = idle_after; dues = idle_due }
+idle_target plan k t h = record { number = h; seen = seen_idle; begins = idle_begins plan k t h; hears = idle_after; posts = idle_due }
 
 -- ---- in stacks
 
@@ -109,4 +109,4 @@ level_begins : (plan : Plan) (k t : ℕ) → target_of_agent plan k ≡ Some t �
 level_begins plan k t h alone = let l = last plan k t h in rw (l.zeroth, l.app, l.device, h, alone) refl
 
 pub stack_target : (plan : Plan) (k t : ℕ) → target_of_agent plan k ≡ Some t → connected_to plan t ≡ None → IsTargetAgent plan stack.stack_meaning k t
-stack_target plan k t h alone = record { number = h; seen = seen_level; begins = ap seen_level (level_begins plan k t h alone); folds = level_after; dues = level_due }
+stack_target plan k t h alone = record { number = h; seen = seen_level; begins = ap seen_level (level_begins plan k t h alone); hears = level_after; posts = level_due }

@@ -100,7 +100,7 @@ module _ {A : Type 0} (plan : Plan) (m : Meaning A) (k t : ℕ) (is : IsTargetAg
     where
       by : (o : Option A) → slice_get xs k ≡ o → option_map (λ x. m.fold x e) o ≡ Some a → is.seen a ≡ Some (target_after u e)
       by None here it = absurd (let z : ⊥ = cc in z)
-      by (Some x) here it = subst (λ y. is.seen y ≡ Some (target_after u e)) (same_Some (m.fold x e) a it) (is.folds x u e (h x here))
+      by (Some x) here it = subst (λ y. is.seen y ≡ Some (target_after u e)) (same_Some (m.fold x e) a it) (is.hears x u e (h x here))
 
   told_seen : (e : Event) (xs : List A) (u : LowerTarget) → Sees xs u → Sees (told m e xs) (target_after u e)
   told_seen (event.Local cpu line) xs u h = h
@@ -346,7 +346,7 @@ module _ {A : Type 0} (plan : Plan) (m : Meaning A) (run : List Event) (resolved
     by_agent : (o : Option A) → slice_get here.agents k ≡ o → same_option same_post (option_and_then m.due o) (Some (post.Done h s)) ≡ true → MayBeDone plan t h s es
     by_agent None at same = absurd (let z : ⊥ = cc in z)
     by_agent (Some a) at same =
-        let due : m.due a ≡ target_due (as_events plan m k t is es) = is.dues a (as_events plan m k t is es) (knows.sees a at) in
+        let due : m.due a ≡ target_due (as_events plan m k t is es) = is.posts a (as_events plan m k t is es) (knows.sees a at) in
         by_first (find (is_due_sent now) (kept t delay 0 es)) refl (ap (λ o. same_option same_post o (Some (post.Done h s))) (sym due) ∙ same)
 
     pub may_be_done : (answer : Option Handle) → slice_get run n ≡ Some (event.Posted k (post.Done h s) answer) → MayBeDone plan t h s es

@@ -108,5 +108,5 @@ pub record IsTargetAgent {A : Type 0} (plan : Plan) (m : Meaning A) (k t : ℕ) 
   pub number : target_of_agent plan k ≡ Some t
   pub seen : A → Option LowerTarget
   pub begins : seen (m.begin plan k) ≡ Some (target_at plan t k)
-  pub folds : (a : A) (u : LowerTarget) (e : Event) → seen a ≡ Some u → seen (m.fold a e) ≡ Some (target_after u e)
-  pub dues : (a : A) (u : LowerTarget) → seen a ≡ Some u → m.due a ≡ target_due u
+  pub hears : (a : A) (u : LowerTarget) (e : Event) → seen a ≡ Some u → seen (m.fold a e) ≡ Some (target_after u e)
+  pub posts : (a : A) (u : LowerTarget) → seen a ≡ Some u → m.due a ≡ target_due u

@@ -1,4 +1,13 @@
 //! Laws over all runs on the simulated targets: a target is done with what was sent to it, in time and in order.
+//!
+//! # Choices
+//!
+//! - **Of which agents?** Of any that is a target of the machine's definitions (`IsTargetAgent`). Those of the program are such,
+//!   and so are those of its idle runs, and in stacks those of targets that aren't connected to a device below.
+//! - **Which events tell?** A Send that answers 1, and what cancels: the driver's cancel of the sent request that answers 1, a stop
+//!   of the target with action 0, an app's cancel that reaches the request. All else is read off the clock and the scenario.
+//! - **Why is `targets_are_prompt` of `order`, `seed N`, `run` and `watch` alone?** It needs that a target's post always fits, so
+//!   that the handle is as the machine knows it. `law_at_rest` says that of their agents.
 #![tactic(auto)]
 
 ghost use Rattle.std.specs.Prelude.{◌≡◌, ◌≤◌, ◌+◌, ℕ, suc, List, Option, Some, None, slice_get, take};
