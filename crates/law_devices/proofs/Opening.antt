@@ -14,7 +14,7 @@ use Rattle.wdf_model.specs.declared.entries.DeviceAction.{DeviceAction}
 use Rattle.wdf_model.specs.agents.Device.{among, at_action, device_at, has_register, register_of, when_action}
 use Rattle.wdf_model.proofs.Counts.{equal}
 use Rattle.law_machine_lives.proofs.Lists.{Each}
-use Rattle.law_devices.specs.Posting.{clock_told}
+use Rattle.law_idle.specs.Idling.{time_after}
 use Rattle.law_devices.specs.Shown.{Shown, Register, Line, value_told}
 use Rattle.law_devices.proofs.Acts.{held, line_of}
 use Rattle.law_devices.proofs.Steps.{Knows, is_on, shower}
@@ -79,7 +79,7 @@ whens_of plan d (w ∷ ws) = by (is_on plan d w) refl (whens_of plan d ws)
     by false e rest = rw e rest
 
 pub knows_first : (plan : Plan) (d k : ℕ) → Knows plan d k [] (device_at plan d k)
-unfolding value_told clock_told
+unfolding value_told time_after
 knows_first plan d k = record {
   number = refl;
   clock = refl;

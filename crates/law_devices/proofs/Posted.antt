@@ -31,7 +31,8 @@ use Rattle.wdf_model.proofs.Runs.{take_next}
 use Rattle.wdf_model.proofs.Tests.{both_left, both_right, in_filter}
 use Rattle.law_trace_power.proofs.Laws.{comes_by}
 use Rattle.law_devices.specs.Agents.{HasDevices}
-use Rattle.law_devices.specs.Posting.{HasTick, IsSetOff, NotPosted, PostsItsActions, clock_told, is_post_of, triggers_line}
+use Rattle.law_idle.specs.Idling.{time_after}
+use Rattle.law_devices.specs.Posting.{HasTick, IsSetOff, NotPosted, PostsItsActions, is_post_of, triggers_line}
 use Rattle.law_devices.proofs.Steps.{IsPostIf, Knows, is_on}
 use Rattle.law_devices.proofs.Ticks.{Done, From, IsFresh, SetOff, Still, all_fresh, due_place, due_there, each_there, from_event, not_due_before}
 use Rattle.law_devices.proofs.Told.{all_know, fits_at}
@@ -172,7 +173,7 @@ module _ {A : Type 0} (plan : Plan) (is_resolved : IsResolved plan) (m : Meaning
         set_off_less run k number j n w t s (λ same. let yes = its_access w t s same in let no_line = lines w refl (lt-ltb 0 w.after s.delayed) in let z : ⊥ = cc in z)
 
     -- an event that triggers it
-    set_has : (w : WhenLine) (tick : Option ℕ) → nat_lt 0 w.after ≡ true → triggers_line w e ≡ true → Has (Some w) tick (tick_after (clock_told (take n run)) w.after) (suc n)
+    set_has : (w : WhenLine) (tick : Option ℕ) → nat_lt 0 w.after ≡ true → triggers_line w e ≡ true → Has (Some w) tick (tick_after (time_after (take n run)) w.after) (suc n)
     set_has w tick late triggers = record {
       delayed = ltb-true 0 w.after late;
       place = n;
@@ -185,9 +186,9 @@ module _ {A : Type 0} (plan : Plan) (is_resolved : IsResolved plan) (m : Meaning
       since = λ i y low high. absurd (omega (arith, low, high));
     }
 
-    set_had : (w : WhenLine) (tick : Option ℕ) (t : ℕ) → triggers_line w e ≡ true → Has (Some w) tick t (suc n) → t ≡ tick_after (clock_told (take n run)) w.after
+    set_had : (w : WhenLine) (tick : Option ℕ) (t : ℕ) → triggers_line w e ≡ true → Has (Some w) tick t (suc n) → t ≡ tick_after (time_after (take n run)) w.after
     set_had w tick t triggers s = elim (one_or_two s.place n) [
-      | inl same ↦ s.tick ∙ ap (λ q. tick_after (clock_told (take q run)) w.after) same
+      | inl same ↦ s.tick ∙ ap (λ q. tick_after (time_after (take q run)) w.after) same
       | inr other ↦ absurd (let before = s.before in let off = s.last n e (omega (arith, before, other)) (omega arith) here in let z : ⊥ = cc in z)
     ]
 
@@ -214,15 +215,15 @@ module _ {A : Type 0} (plan : Plan) (is_resolved : IsResolved plan) (m : Meaning
     known_by all l (SetOff m before trigger action w is late triggers tick) =
         let was = all j m before in
         let its : was.first.trigger ≡ Some w = was.trigger ∙ trigger ∙ is in
-        let set : l.tick ≡ Some (tick_after (clock_told (take n run)) w.after) = tick ∙ ap (λ now. Some (tick_after now w.after)) (knows_now n).clock in
+        let set : l.tick ≡ Some (tick_after (time_after (take n run)) w.after) = tick ∙ ap (λ now. Some (tick_after now w.after)) (knows_now n).clock in
         record {
           first = was.first;
           at = was.at;
           action = was.action ∙ action;
           trigger = was.trigger ∙ trigger;
           tick = λ t x.
-              let some_tick : Some (tick_after (clock_told (take n run)) w.after) ≡ Some t = sym set ∙ x in
-              let same : tick_after (clock_told (take n run)) w.after ≡ t = cc in
+              let some_tick : Some (tick_after (time_after (take n run)) w.after) ≡ Some t = sym set ∙ x in
+              let same : tick_after (time_after (take n run)) w.after ≡ t = cc in
               subst (λ o. Has o was.first.tick t (suc n)) (sym its) (subst (λ u. Has (Some w) was.first.tick u (suc n)) same (set_has w was.first.tick late triggers));
           told = λ t h. set ∙ ap Some (sym (set_had w was.first.tick t triggers (subst (λ o. Has o was.first.tick t (suc n)) its h)));
         }
@@ -248,12 +249,12 @@ module _ {A : Type 0} (plan : Plan) (is_resolved : IsResolved plan) (m : Meaning
 
   -- ---- each post
 
-  reached : (n : ℕ) (o : Option ℕ) → is_due_at (device_now n).clock o ≡ true → (t : ℕ) × (o ≡ Some t) × (t ≤ clock_told (take n run))
+  reached : (n : ℕ) (o : Option ℕ) → is_due_at (device_now n).clock o ≡ true → (t : ℕ) × (o ≡ Some t) × (t ≤ time_after (take n run))
   reached n None due = absurd (let z : ⊥ = cc in z)
   reached n (Some t) due = (t, refl, subst (λ now. t ≤ now) (knows_now n).clock (leb-true t (device_now n).clock due))
 
   not_reached : (n j : ℕ) (l : DeviceAction) (t : ℕ) → AllKnown n → (x : DeviceAction) → slice_get (device_now n).actions (number n) ≡ Some x → j < number n → slice_get (device_actions plan d k) j ≡ Some l
-      → HasTick run k number j n l.trigger l.tick t → clock_told (take n run) < t
+      → HasTick run k number j n l.trigger l.tick t → time_after (take n run) < t
   not_reached n j l t all x there low from h =
       let within = slice_get_within (device_now n).actions (number n) x there in
       let at : slice_get (device_now n).actions j ≡ Some (slice_index_or (device_now n).actions j x) = slice_get-get_or (device_now n).actions j x (omega (arith, low, within)) in

@@ -26,7 +26,7 @@ use Rattle.wdf_model.specs.agents.Device.{Device, accessed, act_on, at_once, del
 use Rattle.wdf_model.specs.agents.Device as device
 use Rattle.wdf_model.proofs.Counts.{equal}
 use Rattle.wdf_model.proofs.Tests.{both_left, both_right, itself}
-use Rattle.law_devices.specs.Posting.{clock_told, tick_by}
+use Rattle.law_idle.specs.Idling.{time_after, time_step}
 use Rattle.law_devices.specs.Shown.{Shown, Register, Line, acted, first_value, given, set_at_once, stored, value_by, value_told}
 use Rattle.law_devices.proofs.Acts.{Has, act_held, act_kept, has_still, held, line_of, once_held, once_kept, stored_held, stored_kept}
 
@@ -46,7 +46,7 @@ is_on plan d w = device_of_register plan w.register == d
 -- what is known of device d, whose agent has this number, after these events
 pub record Knows (plan : Plan) (d k : ℕ) (es : List Event) (h : Device) : Type 0 where
   pub number : h.agent ≡ k
-  pub clock : h.clock ≡ clock_told es
+  pub clock : h.clock ≡ time_after es
   pub owns : (r : ℕ) → has_register (own_register h r) ≡ is_its plan d r
   pub lines : filter_map line_of h.actions ≡ filter (is_on plan d) plan.whens
   pub values : (x : Shown) → shower plan x ≡ Some d → held h x ≡ value_told plan x es
@@ -55,9 +55,9 @@ told_more : (plan : Plan) (x : Shown) (es : List Event) (e : Event) → value_to
 unfolding value_told
 told_more plan x es e = fold-append (value_by plan x) (first_value plan x) es (e ∷ [])
 
-clock_more : (es : List Event) (e : Event) → clock_told (es ++ e ∷ []) ≡ tick_by (clock_told es) e
-unfolding clock_told
-clock_more es e = fold-append tick_by 0 es (e ∷ [])
+clock_more : (es : List Event) (e : Event) → time_after (es ++ e ∷ []) ≡ time_step (time_after es) e
+unfolding time_after
+clock_more es e = fold-append time_step 0 es (e ∷ [])
 
 -- ---- lists of actions
 
@@ -180,7 +180,7 @@ module _ (plan : Plan) (is_resolved : IsResolved plan) (d k : ℕ) (es : List Ev
   has_own (Line i) is = tt
 
   -- an event that tells nothing of it
-  stays : (e : Event) → tick_by (clock_told es) e ≡ clock_told es → ((x : Shown) → shower plan x ≡ Some d → value_by plan x (value_told plan x es) e ≡ value_told plan x es) → Knows plan d k (es ++ e ∷ []) h
+  stays : (e : Event) → time_step (time_after es) e ≡ time_after es → ((x : Shown) → shower plan x ≡ Some d → value_by plan x (value_told plan x es) e ≡ value_told plan x es) → Knows plan d k (es ++ e ∷ []) h
   stays e still calm = record { number = knows.number; clock = knows.clock ∙ sym still ∙ sym (clock_more es e); owns = knows.owns; lines = knows.lines; values = λ x is. knows.values x is ∙ sym (calm x is) ∙ sym (told_more plan x es e) }
 
   accessed_knows : (cpu : Cpu) (a : Access) (r v : ℕ) (own : Bool) → has_register (own_register h r) ≡ own → Knows plan d k (es ++ event.Register cpu a r v ∷ []) (if own then accessed a r (device.stored a r v h) else h)

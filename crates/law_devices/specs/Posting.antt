@@ -11,13 +11,9 @@ use Rattle.wdf_base.specs.Same.{same_access}
 use Rattle.wdf_model.specs.declared.entries.DeviceAction.{DeviceAction}
 use Rattle.wdf_model.specs.Tables.{tick_after}
 use Rattle.wdf_model.specs.agents.Device.{device_actions}
+use Rattle.law_idle.specs.Idling.{time_after}
 
 -- ---- what one event says
-
--- the tick of the clock after event e, by the tick before
-abbrev pub tick_by : ℕ → Event → ℕ
-tick_by before (event.Tick time) = time
-tick_by before _ = before
 
 -- event e is an access that a `when` line waits for
 abbrev pub triggers_line : WhenLine → Event → Bool
@@ -30,10 +26,6 @@ is_post_of agent (event.Posted by p answer) = by == agent
 is_post_of agent _ = false
 
 -- ---- what the events of a run say
-
--- the tick of the clock after these events
-unfoldable pub clock_told : List Event → ℕ
-clock_told events = fold tick_by 0 events
 
 -- From place `from` on, up to place n, the agent doesn't post its action j. `number` says which of its actions it posts at a
 -- place.
@@ -50,7 +42,7 @@ pub record IsSetOff (run : List Event) (agent : ℕ) (number : ℕ → ℕ) (j n
   pub at : slice_get run place ≡ Some access
   pub triggers : triggers_line w access ≡ true
   -- its tick is the delay later
-  pub tick : t ≡ tick_after (clock_told (take place run)) w.after
+  pub tick : t ≡ tick_after (time_after (take place run)) w.after
   -- no later access moved it
   pub last : (i : ℕ) (e : Event) → place < i → i < n → slice_get run i ≡ Some e → triggers_line w e ≡ false
   -- it wasn't posted since
@@ -70,10 +62,10 @@ pub record IsActionPosted (plan : Plan) (d agent : ℕ) (run : List Event) (numb
   -- its tick is reached
   pub tick : ℕ
   pub has : HasTick run agent number (number n) n action.trigger action.tick tick
-  pub reached : tick ≤ clock_told (take n run)
+  pub reached : tick ≤ time_after (take n run)
   -- that of no action before it in the text is
   pub first : (j : ℕ) (l : DeviceAction) (t : ℕ) → j < number n → slice_get (device_actions plan d agent) j ≡ Some l → HasTick run agent number j n l.trigger l.tick t
-      → clock_told (take n run) < t
+      → time_after (take n run) < t
 
 -- What the agent of device d posts in a run are actions of the device, each when it is due. (own)
 pub record PostsItsActions (plan : Plan) (d agent : ℕ) (run : List Event) : Type 0 where
