@@ -8,3 +8,4 @@ pub mod Numbers
 pub mod Ticks
 pub mod InTime
 pub mod Cancels
+pub mod Depths

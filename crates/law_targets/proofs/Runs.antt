@@ -1,10 +1,11 @@
 -- What a target is at each place of a run, by the events so far; and when it is done with a request.
-use Rattle.std.proofs.Common.{if◌then◌else◌, ◌≡◌, inl, inr, ℕ, zero, suc, ◌+◌, ◌==◌, ◌<◌, ◌≤◌, nat_le, nat_lt, Bool, true, false, not, ◌&&◌, ◌||◌, List, [], ◌∷◌, ◌++◌, count_by, find, fold, length, map, Option, Some, None, option_map, unwrap_or, slice_get, take, refl, sym, ap, subst, ◌∙◌, arith, eqb-true}
+use Rattle.std.proofs.Common.{if◌then◌else◌, ◌≡◌, inl, inr, ℕ, zero, suc, ◌+◌, ◌-◌, ◌==◌, ◌<◌, ◌≤◌, nat_le, nat_lt, Bool, true, false, not, ◌&&◌, ◌||◌, List, [], ◌∷◌, ◌++◌, count_by, find, fold, length, map, Option, Some, None, option_map, unwrap_or, slice_get, take, refl, sym, ap, subst, ◌∙◌, arith, eqb-true}
 use Rattle.std.specs.Prelude.{is_some, option_and_then}
 use Rattle.std.specs.List.{list_any, range_with_len}
-use Rattle.std.proofs.lemmas.Bool.{leb-true, lt-ltb, ltb-true}
+use Rattle.std.proofs.lemmas.Bool.{cases_lt, leb-true, lt-ltb, ltb-true}
 use Rattle.std.proofs.lemmas.List.{length-map}
 use Rattle.std.proofs.lemmas.List.Sums.{fold-append}
+use Rattle.std.proofs.Math.Seq.{take-append_seam}
 use Rattle.std.proofs.lemmas.Option.{same_Some, slice_get-map}
 use Rattle.wdf_base.proofs.Tests.{both_left, both_right}
 use Rattle.wdf_base.specs.Meaning.{Meaning}
@@ -40,7 +41,7 @@ use Rattle.wdf_model.specs.rules.Ready.{IsRunOf, ready, state_after}
 use Rattle.wdf_model.specs.rules.Steps.{after, deeds, may}
 use Rattle.wdf_model.proofs.Counting.{counted_first, counting_commutes}
 use Rattle.wdf_model.proofs.Counts.{both_fewer, equal, one_or_two}
-use Rattle.wdf_model.proofs.Runs.{along_run, run_front}
+use Rattle.wdf_model.proofs.Runs.{along_run, run_front, take_ended, take_next}
 use Rattle.wdf_model.proofs.Sames.{handle_same, status_decides}
 use Rattle.law_idle.specs.Idling.{time_after, time_step}
 use Rattle.law_idle.proofs.Meters.{event_steady, is_tick}
@@ -55,6 +56,7 @@ use Rattle.law_stack.proofs.Held.{IsThere, at_one_target, sends_of, sent_there, 
 use Rattle.law_stack.proofs.Targets.{one_agent}
 use Rattle.law_stack.proofs.Undone.{depths_stay}
 use Rattle.law_stuck_causes.proofs.Endings.{at_the_end}
+use Rattle.law_trace_power.proofs.Laws.{comes_by}
 use Rattle.law_targets.specs.Targets.{IsAt, IsTargetAgent, IsNotDue, MayBeDone, cancels, delay_of, sent_to, status_of}
 use Rattle.law_targets.proofs.Found.{IsFound, found}
 use Rattle.law_targets.proofs.Hearing.{Spares, heard, hears}
@@ -174,7 +176,7 @@ module _ {A : Type 0} (plan : Plan) (m : Meaning A) (k t : ℕ) (is : IsTargetAg
     calls_room cpu call.WdfRequestSend n a b x v comes some = finds_room cpu n a b x v comes (object_in b == t && same_value v (Num 1)) refl some
     calls_room cpu _ n a b x v comes some = absurd (let z : ⊥ = cc in z)
 
-    room : (e : Event) → may plan m S e ≡ true → is_some (sent_to t e) ≡ true → nat_lt (length u.sent) u.depth ≡ true
+    pub room : (e : Event) → may plan m S e ≡ true → is_some (sent_to t e) ≡ true → nat_lt (length u.sent) u.depth ≡ true
     room (event.Did cpu c v) comes some = calls_room cpu c.kind c.count c.a c.b c.c v comes some
     room _ comes some = absurd (let z : ⊥ = cc in z)
 
@@ -205,7 +207,7 @@ module _ {A : Type 0} (plan : Plan) (m : Meaning A) (k t : ℕ) (is : IsTargetAg
     posts_spare by (post.Ask a x) answer fits = tt
     posts_spare by (post.Act a) answer fits = tt
 
-    spares : (e : Event) → may plan m S e ≡ true → Spares u e
+    pub spares : (e : Event) → may plan m S e ≡ true → Spares u e
     spares (event.Posted by p answer) comes =
         posts_spare by p answer (both_right (same_option same_post (due_of m S by) (Some p)) (post_fits plan S by p) (both_left (same_option same_post (due_of m S by) (Some p) && post_fits plan S by p) (same_option same_handle (post_answer plan S by p) answer) comes))
     spares _ comes = tt
@@ -279,6 +281,39 @@ clock_is {A} plan m run is_run n =
     ap (λ (T : State A). T.clock) (state_goes_on plan m before e) ∙ clock_after plan m before place e at ∙ ap (λ now. time_step now e) held ∙ sym (fold-append time_step 0 before (e ∷ [])))
     is_run n
 
+-- time doesn't go back
+module _ {A : Type 0} (plan : Plan) (m : Meaning A) (run : List Event) (is_run : IsRunOf plan m run) where
+  one_later : (n : ℕ) (o : Option Event) → slice_get run n ≡ o → fold time_step 0 (take n run) ≤ fold time_step 0 (take (suc n) run)
+  one_later n None at = let same : fold time_step 0 (take (suc n) run) ≡ fold time_step 0 (take n run) = ap (fold time_step 0) (take_ended run n at) in omega (arith, same)
+  one_later n (Some e) at =
+      let es : List Event = take n run in
+      let now : ℕ = fold time_step 0 es in
+      let next : fold time_step 0 (take (suc n) run) ≡ time_step now e = ap (fold time_step 0) (take_next run n e at) ∙ fold-append time_step 0 es (e ∷ []) in
+      elim (comes_by plan m run n e is_run at) [
+        | inl may_ ↦ let same : time_step now e ≡ now = same_time now e (not_tick plan m (state_after plan m es) e may_) in omega (arith, next, same)
+        | inr tick ↦
+            let shows : time_step now e ≡ (state_after plan m es).clock + 1 = ap (time_step now) tick.tick in
+            let clock = clock_is plan m run is_run n in
+            omega (arith, next, shows, clock)
+      ]
+
+  later : (j n : ℕ) → fold time_step 0 (take n run) ≤ fold time_step 0 (take (j + n) run)
+  later zero n = let same : 0 + n ≡ n = omega arith in rw same (omega arith)
+  later (suc j) n =
+      let so_far = later j n in
+      let one = one_later (j + n) (slice_get run (j + n)) refl in
+      let same : fold time_step 0 (take (suc j + n) run) ≡ fold time_step 0 (take (suc (j + n)) run) = ap (λ k. fold time_step 0 (take k run)) (let e : suc j + n ≡ suc (j + n) = omega arith in e) in
+      omega (arith, so_far, one, same)
+
+  -- of two fronts of a run the shorter one is no later
+  front_later : (b c ys zs : List Event) → run ≡ b ++ ys → run ≡ c ++ zs → length b < length c → fold time_step 0 b ≤ fold time_step 0 c
+  front_later b c ys zs first second low =
+      let long : length c - length b + length b ≡ length c = omega (arith, low) in
+      let one : fold time_step 0 (take (length b) run) ≡ fold time_step 0 b = ap (fold time_step 0) (ap (take (length b)) first ∙ take-append_seam b ys) in
+      let two : fold time_step 0 (take (length c - length b + length b) run) ≡ fold time_step 0 c = ap (λ k. fold time_step 0 (take k run)) long ∙ ap (fold time_step 0) (ap (take (length c)) second ∙ take-append_seam c zs) in
+      let it = later (length c - length b) (length b) in
+      omega (arith, one, two, it)
+
 -- ---- a target is done with a request
 
 module _ {A : Type 0} (plan : Plan) (m : Meaning A) (run : List Event) (resolved : IsResolved plan) (is_run : IsRunOf plan m run) (k t : ℕ) (is : IsTargetAgent plan m k t) (n : ℕ) where
@@ -326,12 +361,26 @@ module _ {A : Type 0} (plan : Plan) (m : Meaning A) (run : List Event) (resolved
       let small = now_small in
       omega (arith, low, tick, before, after_, small)
 
+  -- nothing that was sent earlier is there, where it isn't to be cancelled
+  overtakes_none : (s : SentRequest) (f : IsFound t delay now 0 es s) → list_any (cancels t s.request.id.0) f.since ≡ false → (q : Handle) (other : IsAt t q es) → length f.before ≤ length other.before
+  overtakes_none s f off q other = elim (cases_lt (length other.before) (length f.before)) [
+    | inr from ↦ omega (arith, from)
+    | inl low ↦ absurd (
+        let soon = (f.ahead other.before other.send other.since q other.parts other.sent other.undone low).1 in
+        let late = front_later plan m es (run_front (ready plan m) run n is_run) other.before f.before (other.send ∷ other.since) (f.send ∷ f.since) other.parts f.parts low in
+        let over = its_delay s f off in
+        let before = time_is f.before in
+        let after_ = time_is es in
+        omega (arith, soon, late, over, before, after_))
+  ]
+
   by_found : (s : SentRequest) → IsFound t delay now 0 es s → MayBeDone plan t s.request (if s.told then status.Cancelled else status_of plan t) es
   by_found s f = record {
     it = record { before = f.before; send = f.send; since = f.since; parts = f.parts; sent = f.sent; undone = f.undone };
     status = ap (λ b. if b then status.Cancelled else status_of plan t) f.told;
     delay = its_delay s f;
     order = λ q other low. waits q other (f.ahead other.before other.send other.since q other.parts other.sent other.undone low);
+    overtakes = overtakes_none s f;
   }
 
   module _ (h : Handle) (s : Status) where

@@ -1,5 +1,5 @@
 -- What the events of a run say of the requests that are sent to a simulated target, and which agents are such targets.
-use Rattle.std.specs.Prelude.{if◌then◌else◌, ◌≡◌, ◌<◌, ◌≤◌, ℕ, ◌+◌, ◌==◌, Bool, false, ◌&&◌, List, ◌∷◌, ◌++◌, length, Option, Some, None, option_map, unwrap_or}
+use Rattle.std.specs.Prelude.{if◌then◌else◌, ◌≡◌, ◌<◌, ◌≤◌, ℕ, ◌+◌, ◌==◌, Bool, false, ◌&&◌, List, ◌∷◌, ◌++◌, length, Option, Some, None, is_some, option_map, unwrap_or}
 use Rattle.std.specs.List.{list_any}
 use Rattle.wdf_base.specs.Meaning.{Meaning}
 use Rattle.wdf_base.specs.Same.{same_value}
@@ -35,6 +35,15 @@ sent_by_call t c answer = elim c.kind as (λ _. Option Handle) [
 abbrev pub sent_to : ℕ → Event → Option Handle
 sent_to t (event.Did cpu c answer) = sent_by_call t c answer
 sent_to t _ = None
+
+-- an event sends a request to target t
+abbrev pub sends : ℕ → Event → Bool
+sends t e = is_some (sent_to t e)
+
+-- own: the agent with number k is done with a request
+abbrev pub is_done_by : ℕ → Event → Bool
+is_done_by k (event.Posted agent (post.Done q s) answer) = agent == k
+is_done_by k _ = false
 
 -- own: the target that has request r is done with it
 abbrev pub finishes : ℕ → Event → Bool
@@ -80,6 +89,10 @@ is_told t r since = list_any (cancels t r) since
 abbrev pub delay_of : Plan → ℕ → ℕ
 delay_of plan t = unwrap_or (option_map (λ i. i.delay) (target_of plan t)) 0
 
+-- the most requests that target t keeps, as the scenario declares it
+abbrev pub depth_of : Plan → ℕ → ℕ
+depth_of plan t = unwrap_or (option_map (λ i. i.depth) (target_of plan t)) 0
+
 -- the status with which target t is done with a request, as the scenario declares it
 abbrev pub status_of : Plan → ℕ → Status
 status_of plan t = unwrap_or (option_map (λ i. i.status) (target_of plan t)) status.Success
@@ -99,6 +112,8 @@ pub record MayBeDone (plan : Plan) (t : ℕ) (h : Handle) (s : Status) (events :
   pub delay : is_told t h.id.0 it.since ≡ false → time_after it.before + delay_of plan t ≤ time_after events
   -- own: what was sent to the target earlier, and is there, isn't due
   pub order : (q : Handle) (other : IsAt t q events) → length other.before < length it.before → IsNotDue plan t q events other
+  -- own: unless the request is to be cancelled, it overtakes none: nothing that was sent to the target earlier is there
+  pub overtakes : is_told t h.id.0 it.since ≡ false → (q : Handle) (other : IsAt t q events) → length it.before ≤ length other.before
 
 -- ---- which agents are targets
 

@@ -10,7 +10,7 @@
 //!   that the handle is as the machine knows it. `law_at_rest` says that of their agents.
 #![tactic(auto)]
 
-ghost use Rattle.std.specs.Prelude.{◌≡◌, ◌≤◌, ◌+◌, ℕ, suc, List, Option, Some, None, slice_get, take};
+ghost use Rattle.std.specs.Prelude.{◌≡◌, ◌≤◌, ◌+◌, ℕ, suc, count_by, List, Option, Some, None, slice_get, take};
 ghost use Rattle.wdf_base.specs.Meaning.{Meaning};
 ghost use Rattle.wdf_base.specs.Resolved.{IsResolved};
 ghost use Rattle.wdf_base.specs.declared.plan.Plan.{Plan};
@@ -30,15 +30,22 @@ ghost use Rattle.wdf_dev.specs.Agents.{agent_meaning};
 ghost use Rattle.wdf_idle.specs.Agents.{idle_meaning};
 ghost use Rattle.wdf_stack.specs.Agents.{stack_meaning};
 ghost use Rattle.law_idle.specs.Idling.{time_after};
-ghost use Rattle.law_targets.specs.Targets.{IsAt, IsTargetAgent, IsNotDue, MayBeDone, delay_of};
+ghost use Rattle.law_targets.specs.Targets.{IsAt, IsNotDue, IsTargetAgent, MayBeDone, delay_of, depth_of, is_done_by, sends};
 
 /// In every run of a resolved plan, a target is done with a request only where that was sent to it and it wasn't done with it
 /// since. That comes no sooner than its delay after the send, with its status; or the request is to be cancelled since, and
 /// the status is CANCELLED. What was sent to it earlier and is there isn't due then: it isn't to be cancelled, and its delay
-/// isn't over. So a request that isn't cancelled overtakes none.
+/// isn't over. A request that isn't to be cancelled overtakes none.
 pub fn targets_are_done_with_what_was_sent<A>()
     ensures { (plan : Plan) (m : Meaning A) (run : List Event) → IsResolved plan → IsRunOf plan m run → (k t : ℕ) → IsTargetAgent plan m k t
         → (n : ℕ) (h : Handle) (s : Status) (answer : Option Handle) → slice_get run n ≡ Some (event.Posted k (post.Done h s) answer) → MayBeDone plan t h s (take n run) }
+{}
+
+/// At each place of every run, the requests that were sent to a target are no more than those with which it was done and its
+/// depth together: it keeps at most its depth.
+pub fn targets_keep_at_most_their_depth<A>()
+    ensures { (plan : Plan) (m : Meaning A) (run : List Event) → IsRunOf plan m run → (k t : ℕ) → IsTargetAgent plan m k t
+        → (n : ℕ) → count_by (sends t) (take n run) ≤ count_by (is_done_by k) (take n run) + depth_of plan t }
 {}
 
 /// The agents of targets are such agents: all of `wdf_dev` and of `wdf_idle`, and of `wdf_stack` those of targets that are not
