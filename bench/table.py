@@ -7,7 +7,8 @@ Not part of the gate. Build the program first (`./kmdfsim check < examples/first
 
 Each kind of work is run at several sizes by `order`, by `seed 5`, by `replay` of the trace of that seed, and by `run`. A row
 has the size and the events of the run by the seed, and for each word microseconds of the processor for each event, the
-exponent of growth since the size before (1.0: twice the events take twice the time) and the most memory in MB. The seconds
+exponent of growth since the size before (1.0: twice the events take twice the time) and the most memory in MB. That is never
+less than what this script has itself, up to some 45 MB, since the system counts what a process had before it became the program. The seconds
 are the best of two runs; `run` has other events each time, and its column is by its own. An exponent is left out where the
 smaller size took less than 20 ms. `replay` reads 1 MiB at most, and says "too long" of more. Where KINDs are named, only they
 are run.
