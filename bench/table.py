@@ -13,8 +13,8 @@ are the best of two runs; `run` has other events each time, and its column is by
 smaller size took less than 20 ms. `replay` reads 1 MiB at most, and says "too long" of more. Where KINDs are named, only they
 are run.
 
-The kinds are reads, removals of a device, interrupts, a loop, locks, cancels in a queue, queues, devices, timers that are due at
-ticks of their own, work items, apps, what `gen 7` writes, children of one object and classes. Then those in which much waits at once: frames that are
+The kinds are reads, removals of a device, interrupts, a loop, locks, cancels in a queue, queues, queues that declare callbacks
+for requests ("declaring"; "on eight" processors), devices, timers that are due at ticks of their own, work items, apps, what `gen 7` writes, children of one object and classes. Then those in which much waits at once: frames that are
 parked, timers that are due at one tick, removals where a class declares a callback for its cleanup or destruction, and many
 requests for which EvtRequestCancel, EvtIoCanceledOnQueue or EvtIoStop is due, or whose queue declares EvtIoResume. Other kinds
 of work may grow otherwise.
@@ -148,6 +148,18 @@ def resumes(count):
     return machine.reads(count).replace("default\n", "default\non EvtIoResume\nend\n", 1)
 
 
+def declaring(cpus):
+    """Five hundred reads of a device with that many queues, all but one of which declare three callbacks that are never due."""
+
+    def text_of(count):
+        callbacks = "".join(f"on {callback}\nend\n" for callback in ("EvtIoCanceledOnQueue", "EvtIoStop", "EvtIoResume"))
+        more = "".join(f"queue M{k} manual\n{callbacks}end\n" for k in range(count - 1))
+        head = f"device D working\nqueue Q sequential\ndefault\n{machine.COMPLETES}end\n{more}end\n"
+        return machine.opening(cpus=cpus) + head + "app A\n" + "at 0 read D 16\n" * 500 + "end\n"
+
+    return text_of
+
+
 KINDS = {
     "reads": (machine.reads, (500, 1000, 2000, 4000)),
     "removals": (machine.removal, (510, 1020, 2040, 4080)),
@@ -156,6 +168,8 @@ KINDS = {
     "locks": (locks, (20, 40, 80, 160)),
     "cancels": (cancels, (500, 1000, 2000)),
     "queues": (machine.queues, (16, 32, 64, 128, 256)),
+    "declaring": (declaring(1), (16, 64, 256)),
+    "on eight": (declaring(8), (16, 64, 256)),
     "devices": (devices, (1, 2, 4, 8)),
     "timers": (timers, (500, 1000, 2000, 4000)),
     "work items": (work_items, (250, 500, 1000)),
