@@ -1,14 +1,16 @@
-ghost use Rattle.std.specs.Prelude.{◌≡◌, ◌<◌, ◌≤◌, ◌+◌, ◌^◌, ◌++◌, ◌∷◌, ◌↔◌, ◌%◌, ℕ, [], IfOk, IsFalse, IsTrue, MatchOption, None, Some, find, length, nat_lt, slice_get, true, vec_capacity};
+ghost use Rattle.std.specs.Prelude.{◌≡◌, ◌<◌, ◌≤◌, ◌+◌, ◌^◌, ◌++◌, ◌∷◌, ◌↔◌, ◌%◌, ℕ, [], IfOk, IsFalse, IsTrue, MatchOption, None, Some, filter, find, length, nat_lt, slice_get, true, vec_capacity};
 ghost use Rattle.wdf_base.specs.Resolved.{IsResolved};
 ghost use Rattle.wdf_base.specs.declared.event.Event.{Event};
 ghost use Rattle.wdf_base.specs.declared.event.Event.TheVariants as event;
 ghost use Rattle.wdf_model.specs.Runs.{place_for};
 ghost use Rattle.wdf_model.specs.State.{opening_agents};
 ghost use Rattle.wdf_model.specs.rules.Ready.{IsRunOf, allowed, ending_of, ending_without_fault, last_fault, ready, state_after, waits_for_time};
+ghost use Rattle.wdf_model.specs.rules.Groups.{groups};
 ghost use Rattle.wdf_model.specs.rules.Waits.{wait_list};
 ghost use Rattle.wdf_core.specs.Course.{IsUnderWay};
 ghost use Rattle.wdf_core.specs.Going.{goes_on, is_tick, tick_if};
 ghost use Rattle.law_machine_places.specs.Placed.{IsAmong};
+ghost use Rattle.wdf_offers.specs.Search.{has_places};
 ghost use Rattle.wdf_ready.specs.Actors.{is_by as is_step_of};
 ghost use Rattle.wdf_ready.specs.Counts.{Unknown};
 ghost use Rattle.wdf_ready.specs.Sides.{is_of as is_event_of};
@@ -40,6 +42,33 @@ fn opening_parts<A: Agent>(
     ensures { IfOk result (λ parts. parts ≡ state_after plan.now A.meaning []) }
 {
     Parts::make(alloc, plan, agents)
+}
+
+/// Room for the events of a run and for the counts of its groups, before the first event.
+#[derive(Drop)]
+struct Room {
+    groups: Vec<Group>,
+    journal: Vec<Event>,
+    counts: KeptCounts,
+}
+
+impl Room {
+    /// Room for the runs of a plan.
+    fn make(alloc: Global, plan: &IndexedPlan) -> Result<Room, Memory>
+        ensures groups { IfOk result (λ room. room.groups.items ≡ filter (has_places plan.now) (groups plan.now)) }
+        ensures empty { IfOk result (λ room. room.journal.items ≡ []) }
+        ensures space { IfOk result (λ room. plan.now.limit ≤ vec_capacity room.journal) }
+        ensures counts { IfOk result (λ room. Unknown (length room.groups.items) room.counts) }
+    {
+        let groups = groups_of(alloc, plan)?;
+        let journal = Vec::with_capacity(alloc, plan.plan().limit() as usize)?;
+        let counts = KeptCounts::make(alloc, groups.len())?;
+        Ok(Room {
+            groups,
+            journal,
+            counts,
+        })
+    }
 }
 
 /// Whether an event is a tick of the clock.
@@ -110,11 +139,38 @@ impl<A: Agent> Core<A> {
         ensures journal { IfOk result (λ core. core.journal ≡ []) }
     {
         let plan = IndexedPlan::make(alloc, plan)?;
-        let groups = groups_of(alloc, &plan)?;
-        let journal = Vec::with_capacity(alloc, plan.plan().limit() as usize)?;
-        let counts = KeptCounts::make(alloc, groups.len())?;
-        let parts = opening_parts(alloc, &plan, agents)?;
-        Ok(Core::begun(plan, parts, groups, journal, counts))
+        match Room::make(alloc, &plan) {
+            Ok(room) => Core::opened(alloc, plan, room, agents),
+            Err(memory) => {
+                mem::drop(plan);
+                Err(memory)
+            }
+        }
+    }
+
+    /// The same, with room for the run. A plan is let go by a call, so that its drop isn't walked through here.
+    fn opened(
+        alloc: Global,
+        plan: IndexedPlan,
+        room: Room,
+        agents: Vec<A>,
+    ) -> Result<Core<A>, Memory>
+        requires resolved { IsResolved plan }
+        requires agents { agents.items ≡ opening_agents plan A.meaning }
+        requires groups { room.groups.items ≡ filter (has_places plan) (groups plan) }
+        requires empty { room.journal.items ≡ [] }
+        requires space { plan.limit ≤ vec_capacity room.journal }
+        requires counts { Unknown (length room.groups.items) room.counts }
+        ensures plan { IfOk result (λ core. core.plan ≡ plan) }
+        ensures journal { IfOk result (λ core. core.journal ≡ []) }
+    {
+        match opening_parts(alloc, &plan, agents) {
+            Ok(parts) => Ok(Core::begun(plan, parts, room)),
+            Err(memory) => {
+                mem::drop(plan);
+                Err(memory)
+            }
+        }
     }
 
     /// The opening of the plan's run once more, with these agents; those that it had are dropped. It takes no memory, and
@@ -130,25 +186,19 @@ impl<A: Agent> Core<A> {
     }
 
     /// The core of an opening.
-    fn begun(
-        plan: IndexedPlan,
-        parts: Parts<A>,
-        groups: Vec<Group>,
-        journal: Vec<Event>,
-        counts: KeptCounts,
-    ) -> Core<A>
-        requires under_way { IsUnderWay A.meaning plan [] parts groups.items (vec_capacity journal) }
-        requires empty { journal.items ≡ [] }
-        requires counts { Unknown (length groups.items) counts }
+    fn begun(plan: IndexedPlan, parts: Parts<A>, room: Room) -> Core<A>
+        requires under_way { IsUnderWay A.meaning plan [] parts room.groups.items (vec_capacity room.journal) }
+        requires empty { room.journal.items ≡ [] }
+        requires counts { Unknown (length room.groups.items) room.counts }
         ensures plan { result.plan ≡ plan }
         ensures journal { result.journal ≡ [] }
     {
         Core {
             plan,
             parts,
-            groups,
-            journal,
-            counts,
+            groups: room.groups,
+            journal: room.journal,
+            counts: room.counts,
         }
     }
 
