@@ -20,9 +20,9 @@ use crate::ids::ObjectId;
 use crate::items::{FEW, Items, MANY};
 use crate::name::{NAME_LIMIT, Name};
 use crate::script::{AgentInfo, ExprNode, Script, Statement};
+use std::mem;
 
 /// A scenario with numbers in place of names.
-#[derive(Drop)]
 pub struct Plan {
     /// How many processors there are.
     pub cpus: u8,
@@ -47,6 +47,37 @@ pub struct Plan {
     /// The callbacks that are declared.
     pub scripts: Items<Script, MANY>,
     pub picks: Items<u64, MANY>,
+}
+
+impl Drop for Plan {
+    /// Lets go of each list by a call. So that is proved here once, and is one call wherever a plan is let go.
+    fn drop(self) {
+        let Plan {
+            cpus: _,
+            limit: _,
+            objects: _,
+            names,
+            declared,
+            classes,
+            registers,
+            whens,
+            pnp,
+            agents,
+            exprs,
+            scripts,
+            picks,
+        } = self;
+        mem::drop(names);
+        mem::drop(declared);
+        mem::drop(classes);
+        mem::drop(registers);
+        mem::drop(whens);
+        mem::drop(pnp);
+        mem::drop(agents);
+        mem::drop(exprs);
+        mem::drop(scripts);
+        mem::drop(picks);
+    }
 }
 
 impl Plan {

@@ -6,6 +6,7 @@ ghost use Rattle.wdf_parts.specs.Again.{IsSized};
 
 use std::alloc::Global;
 use std::marker::Model;
+use std::mem;
 use wdf_base::{Agent, Event, Memory};
 use wdf_cpu::Cpus;
 use wdf_defer::{Dpcs, Timers, WorkItems};
@@ -27,7 +28,6 @@ const AGENTS: usize = 65_536;
 /// The whole state of the machine, with its agents.
 ///
 /// Contracts see wdf_model's `State`. No call but [`Parts::make`] takes memory.
-#[derive(Drop)]
 pub struct Parts<A: Agent> {
     pub(crate) tree: Tree,
     /// The objects whose deletion is asked at once, while they are gone over.
@@ -52,6 +52,48 @@ pub struct Parts<A: Agent> {
     pub(crate) clock: u64,
     /// How many events there were.
     pub(crate) number: u32,
+}
+
+impl<A: Agent> Drop for Parts<A> {
+    /// Lets go of each part by a call, so that the state is let go by one call wherever it is owned.
+    fn drop(self) {
+        let Parts {
+            tree,
+            below,
+            cpus,
+            locks,
+            requests,
+            queues,
+            control,
+            power,
+            pnp,
+            interrupts,
+            dpcs,
+            work_items,
+            timers,
+            targets,
+            agents,
+            arrivals,
+            clock: _,
+            number: _,
+        } = self;
+        mem::drop(tree);
+        mem::drop(below);
+        mem::drop(cpus);
+        mem::drop(locks);
+        mem::drop(requests);
+        mem::drop(queues);
+        mem::drop(control);
+        mem::drop(power);
+        mem::drop(pnp);
+        mem::drop(interrupts);
+        mem::drop(dpcs);
+        mem::drop(work_items);
+        mem::drop(timers);
+        mem::drop(targets);
+        mem::drop(agents);
+        mem::drop(arrivals);
+    }
 }
 
 impl<A: Agent> Model for Parts<A> {

@@ -6,6 +6,7 @@ ghost use Rattle.wdf_model.specs.rules.Groups as groups;
 use crate::tables::{Tables, tables_of};
 use std::alloc::Global;
 use std::marker::Model;
+use std::mem;
 use wdf_base::{
     ClassInfo, Declared, DeviceInfo, InterruptInfo, Memory, ObjectId, Plan, QueueInfo, TargetInfo,
 };
@@ -15,10 +16,18 @@ use wdf_declared::{class_at, declared_at, device_of, interrupt_of, queue_of, tar
 /// search through all that is declared.
 ///
 /// Contracts see the plan. No call but [`IndexedPlan::make`] takes memory.
-#[derive(Drop)]
 pub struct IndexedPlan {
     pub(crate) plan: Plan,
     pub(crate) tables: Tables,
+}
+
+impl Drop for IndexedPlan {
+    /// Lets go of the plan and of its tables by a call each, so that both are let go by one call wherever they are owned.
+    fn drop(self) {
+        let IndexedPlan { plan, tables } = self;
+        mem::drop(plan);
+        mem::drop(tables);
+    }
 }
 
 impl Model for IndexedPlan {

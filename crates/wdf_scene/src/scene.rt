@@ -2,10 +2,10 @@ ghost use Rattle.std.specs.Prelude.{◌≡◌, ◌+◌, ◌<◌, length, Some, s
 ghost use Rattle.wdf_scene.specs.Scene.{picks_of};
 
 use crate::line::{NumberedLine, SceneExpr, SceneLine};
+use std::mem;
 use wdf_base::{Items, MANY};
 
 /// A scenario as the lines of its text. A block's lines are between its first line and its `end`.
-#[derive(Drop)]
 pub struct Scene {
     /// The version of the text: 1, or 2 where it begins with `version 2`.
     pub version: u8,
@@ -13,6 +13,19 @@ pub struct Scene {
     pub lines: Items<NumberedLine, MANY>,
     /// The nodes of all expressions, in the order of the text.
     pub exprs: Items<SceneExpr, MANY>,
+}
+
+impl Drop for Scene {
+    /// Lets go of each list by a call, so that a scene is let go by one call wherever one is owned.
+    fn drop(self) {
+        let Scene {
+            version: _,
+            lines,
+            exprs,
+        } = self;
+        mem::drop(lines);
+        mem::drop(exprs);
+    }
 }
 
 impl Scene {

@@ -8,6 +8,7 @@ ghost use Rattle.wdf_sets.specs.Parts.{HasMember, number_of};
 use crate::bits::{Bits, Part, WORD};
 use std::alloc::Global;
 use std::marker::Model;
+use std::mem;
 use wdf_base::Memory;
 
 /// How many ids are counted together.
@@ -23,7 +24,6 @@ const ROUND: u32 = 4096;
 /// noted which words of 64 ids have some.
 ///
 /// Contracts see a list of bits, one for each id from 0.
-#[derive(Drop)]
 pub struct IdSet {
     bits: Bits,
     /// Which words of the bits have a member.
@@ -32,6 +32,21 @@ pub struct IdSet {
     counts: Vec<u32>,
     /// How many members there are.
     len: u32,
+}
+
+impl Drop for IdSet {
+    /// Lets go of each vector by a call, so that a set is let go by one call wherever one is owned.
+    fn drop(self) {
+        let IdSet {
+            bits,
+            words,
+            counts,
+            len: _,
+        } = self;
+        mem::drop(bits);
+        mem::drop(words);
+        mem::drop(counts);
+    }
 }
 
 impl Model for IdSet {
