@@ -1,5 +1,5 @@
 -- The first event that breaks the law, and that there is none where each keeps it.
-use Rattle.std.proofs.Common.{◌≡◌, ◌↔◌, ◌<◌, ◌⊎◌, inl, inr, ℕ, suc, ◌+◌, ◌==◌, Bool, false, not, List, [], length, map, option_map, slice_get, take, Option, Some, None, Result, Ok, Err, IfOk, IsNone, refl, sym, ap, ◌∙◌, arith}
+use Rattle.std.proofs.Common.{◌≡◌, ◌↔◌, inl, inr, ℕ, suc, ◌+◌, Bool, false, not, List, [], length, map, option_map, slice_get, take, Option, Some, None, Result, Ok, Err, IfOk, IsNone, refl, sym, ap, ◌∙◌, arith}
 use Rattle.std.specs.List.{list_all}
 use Rattle.std.proofs.lemmas.Option.{slice_get_within}
 use Rattle.wdf_base.specs.Resolved.{IsResolved}

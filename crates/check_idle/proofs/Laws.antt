@@ -1,5 +1,5 @@
 -- The law of each device with a timeout is the law on idle runs.
-use Rattle.std.proofs.Common.{if◌then◌else◌, ◌≡◌, ◌≤◌, ℕ, zero, suc, ◌+◌, ◌==◌, Bool, true, false, not, ◌&&◌, ◌||◌, nat_lt, nat_le, min, codes, inl, inr, List, [], ◌∷◌, length, filter, find, map, unwrap_or, option_map, is_some, Option, Some, None, refl, sym, ap, subst, ◌∙◌, arith}
+use Rattle.std.proofs.Common.{◌≡◌, ℕ, zero, suc, ◌+◌, ◌==◌, Bool, true, false, not, ◌&&◌, ◌||◌, nat_lt, nat_le, min, codes, inl, inr, List, [], ◌∷◌, length, filter, find, map, unwrap_or, option_map, is_some, Option, Some, None, refl, sym, ap, subst, ◌∙◌, arith}
 use Rattle.std.specs.List.{list_all}
 use Rattle.std.proofs.lemmas.Bool.{eqb-true}
 use Rattle.std.proofs.lemmas.Bool.Decides.{nat_tests}
@@ -19,7 +19,7 @@ use Rattle.wdf_model.specs.Plans.{declared_ids, device_of, devices_of}
 use Rattle.wdf_model.specs.agents.IdlePolicy.{LONGEST_TIMEOUT, is_register_named, opening_value, timeout_of}
 use Rattle.law_idle.specs.Idling.{has_pending, is_asleep, is_awake, is_held, since, time_after}
 use Rattle.law_idle.specs.Idling as words
-use Rattle.law_idle.specs.Law.{is_sent_to_sleep, is_wanted, is_well_rested, is_woken_by_line, keeps_idle_law, takes_part}
+use Rattle.law_idle.specs.Law.{is_sent_to_sleep, is_well_rested, is_woken_by_line, keeps_idle_law, takes_part}
 use Rattle.law_idle.specs.Law as law
 use Rattle.law_idle.proofs.RestRuns.{device_is_declared}
 use Rattle.law_idle.proofs.Told.{none_as}

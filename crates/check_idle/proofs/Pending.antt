@@ -1,13 +1,12 @@
 -- The requests that are kept as pending are those that the words of the law say.
-use Rattle.std.proofs.Common.{if◌then◌else◌, ◌≡◌, ℕ, zero, suc, ◌==◌, Bool, true, false, not, ◌&&◌, ◌||◌, List, [], ◌∷◌, ◌++◌, length, filter, Option, Some, None, refl, sym, ap, ◌∙◌, arith}
+use Rattle.std.proofs.Common.{◌≡◌, ℕ, suc, ◌==◌, Bool, true, false, not, ◌&&◌, ◌||◌, List, [], ◌∷◌, ◌++◌, length, filter, Option, Some, None, refl, sym, ap, ◌∙◌, arith}
 use Rattle.std.specs.List.{filter_map, list_all}
 use Rattle.std.proofs.lemmas.Bool.Decides.{nat_tests}
 use Rattle.std.proofs.lemmas.List.Elements.{filter-append, filter_map-append}
 use Rattle.wdf_base.specs.declared.event.Event.{Event}
 use Rattle.wdf_laws.specs.declared.sign.Sign.TheVariants as sign
-use Rattle.wdf_laws.specs.Events.{arrived, arrived_at, completed, is_id, where_so}
-use Rattle.wdf_laws.specs.Laws.{is_completed, is_settled}
-use Rattle.wdf_laws.specs.Signs.{shows}
+use Rattle.wdf_laws.specs.Events.{arrived, arrived_at, completed, is_id}
+use Rattle.wdf_laws.specs.Laws.{is_settled}
 use Rattle.wdf_laws.specs.Words.{ever}
 use Rattle.law_idle.specs.Idling.{has_pending}
 use Rattle.check_past.proofs.Words.{ever_next}

@@ -1,5 +1,5 @@
 -- What is kept of a device is what the words of the law say, before the first event and after one more.
-use Rattle.std.proofs.Common.{if◌then◌else◌, ◌≡◌, ℕ, suc, ◌==◌, Bool, true, false, not, ◌&&◌, ◌||◌, codes, List, [], ◌∷◌, ◌++◌, length, map, take, slice_get, Option, Some, None, refl, sym, ap, ◌∙◌}
+use Rattle.std.proofs.Common.{if◌then◌else◌, ◌≡◌, ℕ, suc, ◌==◌, Bool, true, false, not, ◌&&◌, ◌||◌, codes, List, [], ◌∷◌, ◌++◌, length, map, take, slice_get, Option, Some, refl, sym, ap, ◌∙◌}
 use Rattle.std.specs.List.{filter_map}
 use Rattle.wdf_base.specs.declared.plan.Plan.{Plan}
 use Rattle.wdf_base.specs.declared.declared.RegisterInfo.{RegisterInfo}
@@ -17,7 +17,7 @@ use Rattle.law_idle.specs.Idling.{Rest, asked_of, asleep_rest, asleep_step, awak
 use Rattle.law_idle.specs.Idling as law
 use Rattle.law_idle.proofs.Since.{asleep_more, awake_more, held_more, since_more}
 use Rattle.law_stuck_causes.proofs.Members.{map_twice}
-use Rattle.check_idle.specs.Watched.{Watched, arrival_for, asked, asleep_after, awake_after, held_after, is_used, opened, pending_of, starts_anew, stirred, watched, watched_after, with_arrival, without_completed}
+use Rattle.check_idle.specs.Watched.{Watched, asked, asleep_after, awake_after, held_after, is_used, opened, pending_of, starts_anew, stirred, watched, watched_after}
 use Rattle.check_idle.specs.Timed.{opened_by, timed_by, timed_devices, watches_after}
 use Rattle.check_idle.proofs.Lists.{mapped_alike}
 use Rattle.check_idle.proofs.Pending.{pending_more, used_as}

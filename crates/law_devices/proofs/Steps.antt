@@ -22,7 +22,7 @@ use Rattle.wdf_base.specs.declared.event.Post.{Post}
 use Rattle.wdf_base.specs.declared.event.Post.TheVariants as post
 use Rattle.wdf_model.specs.declared.entries.DeviceAction.{DeviceAction}
 use Rattle.wdf_model.specs.Plans.{device_of_agent, device_of_register}
-use Rattle.wdf_model.specs.agents.Device.{Device, accessed, act_on, at_once, delay_of, device_after, due_action, first_done, has_register, is_due_at, own_register, posted_action, set_off, set_off_all, triggers, without_tick}
+use Rattle.wdf_model.specs.agents.Device.{Device, accessed, delay_of, device_after, due_action, first_done, has_register, is_due_at, own_register, posted_action, set_off, set_off_all, triggers, without_tick}
 use Rattle.wdf_model.specs.agents.Device as device
 use Rattle.wdf_model.proofs.Counts.{equal}
 use Rattle.wdf_model.proofs.Tests.{both_left, both_right, itself}

@@ -18,7 +18,7 @@ use Rattle.wdf_model.specs.declared.entries.Running.{Running}
 use Rattle.wdf_model.specs.Tables.{entry, put}
 use Rattle.wdf_model.specs.parts.Cpus.{Cpus, blank_frame, frame_of, no_frame, running, top, without_frame}
 use Rattle.wdf_model.specs.parts.Requests as requests
-use Rattle.wdf_model.specs.parts.Tree.{Tree, cell_of, gone, life_of, new_node, node_of, noted, subtree, with_life, with_node}
+use Rattle.wdf_model.specs.parts.Tree.{Tree, gone, life_of, new_node, node_of, noted, subtree, with_life, with_node}
 use Rattle.wdf_model.specs.parts.Tree as tree
 use Rattle.wdf_model.specs.State.{State}
 use Rattle.wdf_model.specs.declared.deed.Deed.{Deed}

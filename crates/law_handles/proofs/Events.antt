@@ -50,7 +50,7 @@ use Rattle.wdf_model.specs.parts.Deferred.Dpcs.{is_dpc_queued}
 use Rattle.wdf_model.specs.parts.Interrupts.{is_enabled}
 use Rattle.wdf_model.specs.parts.Requests.{is_cancelled, mark_of, no_request, origin_of, place_of}
 use Rattle.wdf_model.specs.parts.Targets.{is_forgotten}
-use Rattle.wdf_model.specs.parts.Tree.{Tree, cell_of, gone, handle_of, is_full, life_of, made_as, name_as, nearest_device, nearest_devices, new_node, next_id, node_of, own_device}
+use Rattle.wdf_model.specs.parts.Tree.{Tree, cell_of, gone, is_full, life_of, made_as, name_as, nearest_device, nearest_devices, new_node, node_of, own_device}
 use Rattle.wdf_model.specs.parts.Tree as tree
 use Rattle.wdf_model.specs.State.{State, declared_in, handle_in, held_at, is_held_from, is_proper, is_with_driver, object_in, queue_delivers}
 use Rattle.wdf_model.specs.rules.Calls.{Outcome, class_in, create_outcome, creation, forward_outcome, forwards_nowhere, is_met_then, mark_outcome, may_send, new_handle, number, number_in, origin_or_none, outcome, refused, requeue_outcome, retrieve_front, retrieve_outcome, second_deeds}

@@ -1,5 +1,5 @@
 -- The clock and the count of arrivals, which no deed moves but those that are made for it.
-use Rattle.std.proofs.Common.{if◌then◌else◌, ◌≡◌, ◌≤◌, ℕ, Bool, true, false, not, ◌&&◌, List, [], ◌∷◌, fold, refl, ◌∙◌, arith}
+use Rattle.std.proofs.Common.{if◌then◌else◌, ◌≡◌, ◌≤◌, ℕ, Bool, true, false, not, List, [], ◌∷◌, fold, refl, ◌∙◌, arith}
 use Rattle.std.specs.List.{list_all}
 use Rattle.wdf_base.proofs.Tests.{both_left, both_right}
 use Rattle.wdf_base.specs.Meaning.{Meaning}
@@ -13,7 +13,6 @@ use Rattle.wdf_base.specs.declared.object.RequestInfo.{RequestInfo}
 use Rattle.wdf_model.specs.declared.enums.Mode.TheVariants as mode
 use Rattle.wdf_model.specs.Plans.{managed_queues, queues_of}
 use Rattle.wdf_model.specs.parts.Tree.{life_of, subtree}
-use Rattle.wdf_model.specs.parts.Requests.{made_info}
 use Rattle.wdf_model.specs.parts.Requests as requests
 use Rattle.wdf_model.specs.parts.Queues.{waiting_in}
 use Rattle.wdf_model.specs.parts.Control as control

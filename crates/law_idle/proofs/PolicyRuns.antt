@@ -9,10 +9,7 @@ use Rattle.wdf_base.specs.declared.plan.Plan.{Plan}
 use Rattle.wdf_base.specs.declared.ids.Cpu.{Cpu}
 use Rattle.wdf_base.specs.declared.ids.Handle.{Handle}
 use Rattle.wdf_base.specs.declared.value.Value.{Value}
-use Rattle.wdf_base.specs.declared.value.Value.TheVariants.{Obj}
 use Rattle.wdf_base.specs.declared.object.Kind.TheVariants as kind
-use Rattle.wdf_base.specs.declared.call.Arg.{Arg}
-use Rattle.wdf_base.specs.declared.call.Arg.TheVariants.{Val}
 use Rattle.wdf_base.specs.declared.call.Call.{Call}
 use Rattle.wdf_base.specs.declared.call.CallKind.TheVariants as call
 use Rattle.wdf_base.specs.declared.declared.DeviceInfo.{DeviceInfo}
@@ -27,7 +24,7 @@ use Rattle.wdf_base.specs.Same.{same_call_kind}
 use Rattle.wdf_model.specs.Runs.{IsRun}
 use Rattle.wdf_model.specs.Plans.{agent_count, declared_ids, device_of, devices_of}
 use Rattle.wdf_model.specs.State.{State, object_in, opening}
-use Rattle.wdf_model.specs.rules.Faults.{View, is_wrong_kind}
+use Rattle.wdf_model.specs.rules.Faults.{is_wrong_kind}
 use Rattle.wdf_model.specs.rules.Posts.{ARRIVALS}
 use Rattle.wdf_model.specs.rules.Steps.{after, may, view_of}
 use Rattle.wdf_model.specs.rules.Ready.{IsRunOf, ready, state_after}
@@ -56,6 +53,7 @@ use Rattle.law_idle.proofs.Policy.{IsPolicy, clock_goes_on, from_mapped, lines_s
 use Rattle.law_idle.proofs.RestRuns.{device_is_declared}
 use Rattle.law_idle.proofs.Since.{time_more}
 use Rattle.law_idle.proofs.Told.{Told, told_more}
+use Rattle.law_trace_families.proofs.Drained.{names}
 
 -- what the policy knows of one device
 pub record Knows {A : Type 0} (plan : Plan) (S : State A) (es : List Event) (x : IdleDevice) : Type 0 where
@@ -155,10 +153,6 @@ unfolding state_after
 all_first plan m policy has = opens_all plan m policy has
 
 -- ---- what is known of an event
-
-names : (v : View) (a : Arg) → is_wrong_kind v (sort.ObjectOf kind.Request) a ≡ false → argument_object a ≡ Some (object_in a)
-names v (Val (Obj h)) e = refl
-names v _ e = absurd (let z : ⊥ = cc in z)
 
 named_by : {A : Type 0} (plan : Plan) (m : Meaning A) (S : State A) (cpu : Cpu) (c : Call) (v : Value) → may plan m S (event.Did cpu c v) ≡ true → same_call_kind c.kind call.WdfRequestComplete ≡ true → argument_object c.a ≡ Some (object_in c.a)
 named_by plan m S cpu c v h is =

@@ -34,7 +34,7 @@ use Rattle.wdf_laws.specs.Events.{is_success as laws_success}
 use Rattle.law_machine_base.specs.Agreement.{is_sequence}
 use Rattle.law_trace_power.proofs.Happens.{not_running, taken_pass, taken_run}
 use Rattle.law_trace_turns.specs.Turned.{Asked, Begun, Ended, Passed, Still, Turned, is_asking, is_turning}
-use Rattle.law_trace_power.specs.Steps.{is_working}
+use Rattle.wdf_model.specs.agents.StackManager.{is_working}
 use Rattle.law_idle.specs.Idling.{Rest, asleep_step, awake_step, refuses_removal, refuses_stop, rest_after}
 use Rattle.law_idle.specs.Resting.{IsAtRest, Rests, has_query, is_sleeping, is_tidy, step_if_any, under_way}
 use Rattle.law_idle.proofs.Lists.{end_asks_not, end_tidy, lists_tidy, rest_is_last, tail_asks_not, tail_asks_nothing, tail_is_tidy, tidy_tail}

@@ -1,7 +1,5 @@
 -- What the words say of a device's rest is so at each place of every run of a resolved plan.
-use Rattle.std.proofs.Common.{◌≡◌, ℕ, zero, suc, ◌+◌, ◌≤◌, Bool, true, false, List, [], ◌∷◌, ◌++◌, Option, Some, None, length, map, slice_get, take, refl, sym, ap, subst, ◌∙◌, arith}
-use Rattle.std.specs.List.{range_with_len}
-use Rattle.std.proofs.lemmas.Option.{slice_get_past}
+use Rattle.std.proofs.Common.{◌≡◌, ℕ, zero, suc, ◌+◌, Bool, true, false, List, [], ◌∷◌, ◌++◌, Option, Some, None, slice_get, take, refl, sym, ap, subst, ◌∙◌}
 use Rattle.wdf_base.specs.Meaning.{Meaning}
 use Rattle.wdf_base.specs.Resolved.{IsResolved}
 use Rattle.wdf_base.specs.Lives.{is_gone}
@@ -12,10 +10,9 @@ use Rattle.wdf_base.specs.declared.declared.Declared.TheVariants as declared
 use Rattle.wdf_base.specs.declared.declared.DeviceInfo.{DeviceInfo}
 use Rattle.wdf_base.specs.declared.object.Kind.TheVariants as kind
 use Rattle.wdf_base.specs.declared.event.Event.{Event}
-use Rattle.wdf_model.specs.Tables.{entry}
 use Rattle.wdf_model.specs.Plans.{as_device, device_of}
 use Rattle.wdf_model.specs.parts.Tree.{kind_of, life_of, made_as, nearest_device, node_of}
-use Rattle.wdf_model.specs.parts.Pnp.{no_sequence, opening_sequence, sequence_of}
+use Rattle.wdf_model.specs.parts.Pnp.{opening_sequence, sequence_of}
 use Rattle.wdf_model.specs.State.{State, declared_in}
 use Rattle.wdf_model.specs.rules.Steps.{after}
 use Rattle.wdf_model.specs.rules.Ready.{IsRunOf, ready, state_after}
@@ -23,24 +20,15 @@ use Rattle.wdf_model.proofs.Runs.{run_front, take_ended, take_next}
 use Rattle.law_machine_base.proofs.Follows.{state_goes_on}
 use Rattle.law_machine_lives.proofs.SoundRuns.{KnownAll, all_known}
 use Rattle.law_trace_power.proofs.Declares.{is_device, own_device_of}
-use Rattle.law_trace_power.proofs.Runs.{mapped}
 use Rattle.law_trace_families.proofs.Families.{Family, family_at_each}
 use Rattle.law_trace_turns.proofs.Places.{turned_at}
 use Rattle.law_idle.specs.Idling.{asleep_rest, awake_rest, awake_step}
 use Rattle.law_idle.specs.Resting.{Rests}
 use Rattle.law_idle.proofs.Rest.{rests_on}
 use Rattle.law_idle.proofs.Since.{asleep_more, awake_more}
+use Rattle.law_machine_room.proofs.NamesOfSteps.{opening_read}
 
 -- ---- the opening
-
-no_device : (plan : Plan) (x : ℕ) → suc (length plan.declared) ≤ x → device_of plan x ≡ None
-no_device plan zero h = absurd (omega arith)
-no_device plan (suc x) h = ap as_device (slice_get_past plan.declared x (omega arith))
-
-first_sequence : (plan : Plan) (d : ℕ) → entry no_sequence (map (λ x. opening_sequence plan x (device_of plan x)) (range_with_len 0 (suc (length plan.declared)))) d ≡ opening_sequence plan d (device_of plan d)
-first_sequence plan d =
-    let e : 0 + d ≡ d = omega arith in
-    rw e at (mapped no_sequence (λ x. opening_sequence plan x (device_of plan x)) 0 (suc (length plan.declared)) d (λ x h. ap (opening_sequence plan x) (no_device plan x (omega arith))))
 
 opens_by : (plan : Plan) (d : ℕ) (info : DeviceInfo) (b : Bool) → info.working ≡ b → Rests (record { now = b; before = false }) (record { now = false; before = false }) (opening_sequence plan d (Some info))
 opens_by plan d info true e = record {
@@ -64,7 +52,7 @@ opens plan d info at = rw at (opens_by plan d info info.working refl)
 
 rests_first : {A : Type 0} (plan : Plan) (m : Meaning A) (d : ℕ) (info : DeviceInfo) → device_of plan d ≡ Some info → Rests (awake_rest plan d []) (asleep_rest d []) (sequence_of (state_after plan m []).pnp d)
 unfolding state_after
-rests_first plan m d info at = subst (λ q. Rests (awake_rest plan d []) (asleep_rest d []) q) (sym (first_sequence plan d)) (opens plan d info at)
+rests_first plan m d info at = subst (λ q. Rests (awake_rest plan d []) (asleep_rest d []) q) (sym (opening_read plan d)) (opens plan d info at)
 
 -- ---- the device of a device
 

@@ -1,5 +1,5 @@
 -- What the deeds of an event give is of the plan, where the event is.
-use Rattle.std.proofs.Common.{if◌then◌else◌, ◌≡◌, ℕ, suc, ◌+◌, ◌<◌, ◌≤◌, ◌^◌, Bool, true, false, List, [], ◌∷◌, ◌++◌, length, replicate, Option, Some, None, option_and_then, unwrap_or, inl, inr, refl, sym, ap, subst, arith, length-append}
+use Rattle.std.proofs.Common.{if◌then◌else◌, ◌≡◌, ℕ, ◌+◌, ◌<◌, ◌≤◌, ◌^◌, Bool, true, false, List, [], ◌∷◌, ◌++◌, length, Option, Some, None, option_and_then, inl, inr, sym, subst, arith, length-append}
 use Rattle.wdf_base.specs.Callbacks.{row_of}
 use Rattle.wdf_base.specs.Meaning.{Meaning}
 use Rattle.wdf_base.specs.Same.{same_kind}
@@ -35,8 +35,8 @@ use Rattle.wdf_model.specs.Plans.{callback_irql}
 use Rattle.wdf_model.specs.parts.Tree.{life_of, nearest_device, nearest_devices, own_device}
 use Rattle.wdf_model.specs.parts.Cpus.{frame_of, top}
 use Rattle.wdf_model.specs.parts.Locks.{lock_of_callback}
-use Rattle.wdf_model.specs.parts.Requests.{arrival_of, info_of, place_of}
-use Rattle.wdf_model.specs.State.{State, declared_in, handle_in}
+use Rattle.wdf_model.specs.parts.Requests.{arrival_of, place_of}
+use Rattle.wdf_model.specs.State.{State, declared_in}
 use Rattle.wdf_model.specs.Ids.{frame_id, irql_of, object_id}
 use Rattle.wdf_model.specs.declared.deed.Deed.{Deed}
 use Rattle.wdf_model.specs.declared.deed.Deed.TheVariants.{Arrive, CountArrival, GoOn, PopFrame, PushFrame}
@@ -53,7 +53,7 @@ use Rattle.wdf_trace.specs.Events.{IsCallOf, IsEventOf, IsHandleOf, IsOptionalOf
 use Rattle.law_lines.proofs.ProperNames.{handle_name}
 use Rattle.law_lines.proofs.OfPlan.{Bounded, few_declared}
 use Rattle.law_lines.specs.Fitting.{HasFittingNumbers}
-use Rattle.law_lines.specs.Values.{HasFrameValues, HasPlanValues, IsPendingOf}
+use Rattle.law_lines.specs.Values.{HasFrameValues, HasPlanValues}
 use Rattle.law_lines.proofs.Intents.{IsIntentOf, intent_is_of}
 use Rattle.law_lines.proofs.ByDeeds.{AllTellOf, TellsOf, value_set, zeros}
 use Rattle.law_lines.proofs.Outcomes.{outcome_of, second_tells}

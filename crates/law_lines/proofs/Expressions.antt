@@ -1,5 +1,5 @@
 -- The values of expressions are values of the plan.
-use Rattle.std.proofs.Common.{if◌then◌else◌, ◌≡◌, ℕ, zero, suc, ◌+◌, ◌-◌, ◌*◌, ◌/◌, ◌%◌, ◌==◌, ◌<◌, ◌≤◌, ◌^◌, Bool, true, false, not, ◌&&◌, ◌||◌, nat_lt, nat_le, List, [], ◌∷◌, Option, Some, None, option_map, unwrap_or, slice_get, slice_index_or, bit_and, bit_or, bit_xor, refl, sym, subst, inl, inr, arith}
+use Rattle.std.proofs.Common.{if◌then◌else◌, ◌≡◌, ℕ, zero, suc, ◌+◌, ◌-◌, ◌*◌, ◌/◌, ◌%◌, ◌==◌, ◌<◌, ◌≤◌, ◌^◌, Bool, true, false, not, ◌&&◌, ◌||◌, nat_lt, nat_le, List, [], ◌∷◌, Option, Some, None, option_map, slice_get, refl, subst, inl, inr, arith}
 use Rattle.std.proofs.lemmas.Bool.{or_cases}
 use Rattle.std.proofs.lemmas.Nat.{and_le_l, mod_below, or_lt, xor_lt}
 use Rattle.std.proofs.Math.Nat.{div-le_self, mod-le}
@@ -18,7 +18,7 @@ use Rattle.wdf_base.specs.declared.script.ExprNode.{ExprNode}
 use Rattle.wdf_base.specs.declared.script.ExprNode.TheVariants as node
 use Rattle.wdf_base.specs.Same.{same_value}
 use Rattle.wdf_model.specs.Tables.{flag}
-use Rattle.wdf_model.specs.rules.Script.{WORD, context_value, node_value, number_by, numbers_by, operands_by, quotient, remainder, request_value, value_by, value_of, value_to}
+use Rattle.wdf_model.specs.rules.Script.{WORD, context_value, node_value, number_by, numbers_by, operands_by, request_value, value_by, value_of, value_to}
 use Rattle.wdf_model.proofs.Tests.{both_left, both_right}
 use Rattle.wdf_trace.specs.Events.{IsHandleOf, IsOptionalOf, IsValueOf}
 use Rattle.law_lines.proofs.Posting.{handle_of_plan}

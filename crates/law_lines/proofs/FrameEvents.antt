@@ -1,5 +1,5 @@
 -- What a frame does is an event of the plan.
-use Rattle.std.proofs.Common.{if◌then◌else◌, ◌≡◌, ℕ, ◌==◌, ◌<◌, ◌≤◌, ◌^◌, Bool, true, false, ◌&&◌, List, [], ◌∷◌, ◌++◌, length, Option, Some, None, is_some, refl, sym, ap, subst, arith}
+use Rattle.std.proofs.Common.{if◌then◌else◌, ◌≡◌, ℕ, ◌<◌, ◌^◌, Bool, true, false, List, [], ◌∷◌, ◌++◌, Option, Some, None, is_some, refl, sym, ap, subst}
 use Rattle.std.proofs.Common.{rules}
 use Rattle.std.specs.Bool.{Decides}
 use Rattle.wdf_base.specs.Meaning.{Meaning}
@@ -19,17 +19,17 @@ use Rattle.wdf_base.specs.declared.frame.Intent.TheVariants as intent
 use Rattle.wdf_base.specs.declared.frame.Pending.{Pending}
 use Rattle.wdf_base.specs.declared.value.Value.{Value}
 use Rattle.wdf_model.specs.Ids.{cpu_of}
-use Rattle.wdf_model.specs.Tables.{entry, first_of_list}
+use Rattle.wdf_model.specs.Tables.{first_of_list}
 use Rattle.wdf_model.specs.Plans.{device_of_register}
 use Rattle.wdf_model.specs.parts.Cpus.{frame_of, top}
 use Rattle.wdf_model.specs.State.{State}
 use Rattle.wdf_model.specs.declared.deed.Deed.{Deed}
-use Rattle.wdf_model.specs.rules.Deeds.{do_deed, do_deeds}
-use Rattle.wdf_model.specs.rules.Script.{intent_of, line_of}
+use Rattle.wdf_model.specs.rules.Deeds.{do_deed}
+use Rattle.wdf_model.specs.rules.Script.{intent_of}
 use Rattle.wdf_model.specs.rules.Faults.{fault_of}
 use Rattle.wdf_model.specs.rules.Calls.{is_met, is_met_then, outcome, second_deeds}
 use Rattle.wdf_model.specs.rules.Starts.{shown}
-use Rattle.wdf_model.specs.rules.Steps.{by_top, deeds, did_deeds, event_of_frame, event_of_top, fault_event, intent_event, is_own_event, may, own_event, spends, view_of}
+use Rattle.wdf_model.specs.rules.Steps.{deeds, did_deeds, event_of_frame, event_of_top, fault_event, intent_event, may, own_event, spends, view_of}
 use Rattle.wdf_model.proofs.Sames.{cpu_same, did_same, end_same, value_same, waiting_same, woke_same}
 use Rattle.wdf_model.proofs.Tests.{both_left, both_right}
 use Rattle.law_machine_lives.proofs.Lists.{inside}
@@ -37,7 +37,7 @@ use Rattle.wdf_model.specs.rules.Room.{AreDoable}
 use Rattle.wdf_trace.specs.Events.{IsCallOf, IsEventOf}
 use Rattle.law_lines.proofs.OfPlan.{Bounded, cpus_few}
 use Rattle.law_lines.specs.Fitting.{HasFittingNumbers}
-use Rattle.law_lines.specs.Values.{HasFrameValues, HasPlanValues, IsPendingOf}
+use Rattle.law_lines.specs.Values.{HasPlanValues, IsPendingOf}
 use Rattle.law_lines.proofs.Intents.{IsIntentOf, intent_is_of, line_small}
 use Rattle.law_lines.proofs.Outcomes.{outcome_of}
 

@@ -1,16 +1,15 @@
 -- What a frame is about to do gives values, calls, registers and lines of the plan.
-use Rattle.std.proofs.Common.{if◌then◌else◌, ◌≡◌, ℕ, zero, suc, ◌+◌, ◌-◌, ◌==◌, ◌<◌, ◌≤◌, ◌^◌, Bool, true, false, ◌&&◌, nat_le, nat_lt, List, [], ◌∷◌, length, Option, Some, None, option_map, unwrap_or, slice_get, refl, sym, subst, arith}
+use Rattle.std.proofs.Common.{if◌then◌else◌, ◌≡◌, ℕ, zero, suc, ◌-◌, ◌==◌, ◌<◌, ◌≤◌, ◌^◌, Bool, true, false, nat_le, nat_lt, List, [], ◌∷◌, length, Option, Some, None, option_map, unwrap_or, slice_get, refl, sym, subst, arith}
 use Rattle.std.specs.List.{list_all}
 use Rattle.std.proofs.lemmas.Bool.{leb-true, ltb-true}
 use Rattle.std.proofs.lemmas.Option.{slice_get_within}
-use Rattle.wdf_base.specs.Calls.{argument_count, one_argument, signature_of}
+use Rattle.wdf_base.specs.Calls.{argument_count, signature_of}
 use Rattle.wdf_base.specs.Kinds.{class_kind}
-use Rattle.wdf_base.specs.Plan.{script_statements, statements_of}
-use Rattle.wdf_base.specs.Resolved.{IsResolved, act_fits, arg_fits, is_expr, is_register, owner_fits, script_fits, statement_fits}
+use Rattle.wdf_base.specs.Plan.{script_statements}
+use Rattle.wdf_base.specs.Resolved.{IsResolved, act_fits, arg_fits, script_fits, statement_fits}
 use Rattle.wdf_base.specs.Same.{same_kind, same_option}
 use Rattle.wdf_base.specs.declared.plan.Plan.{Plan}
-use Rattle.wdf_base.specs.declared.call.Arg.{Arg}
-use Rattle.wdf_base.specs.declared.call.Arg.TheVariants.{Val, Class}
+use Rattle.wdf_base.specs.declared.call.Arg.TheVariants.{Class}
 use Rattle.wdf_base.specs.declared.call.CallKind.{CallKind}
 use Rattle.wdf_base.specs.declared.call.CallKind.TheVariants as call
 use Rattle.wdf_base.specs.declared.declared.ClassInfo.{ClassInfo}
@@ -31,10 +30,10 @@ use Rattle.wdf_base.specs.declared.signature.Sort.TheVariants as sort
 use Rattle.wdf_base.specs.declared.value.Status.TheVariants as status
 use Rattle.wdf_base.specs.declared.value.Value.{Value}
 use Rattle.wdf_base.specs.declared.value.Value.TheVariants.{Num, Obj, Stat}
-use Rattle.wdf_model.specs.rules.Script.{act_intent, again_intent, arg_of, call_of, if_intent, intent_at, intent_of, let_intent, line_of, line_of_statement, log_intent, put_intent, repeat_intent, return_intent, runs_left, spend_intent, statement_at, value_of}
+use Rattle.wdf_model.specs.rules.Script.{act_intent, arg_of, call_of, if_intent, intent_at, intent_of, let_intent, line_of, line_of_statement, log_intent, put_intent, repeat_intent, return_intent, spend_intent, statement_at, value_of}
 use Rattle.wdf_model.proofs.Tests.{both_left, both_right}
 use Rattle.wdf_trace.specs.Events.{IsArgumentOf, IsCallOf, IsValueOf}
-use Rattle.law_lines.specs.Fitting.{HasFittingLines, HasFittingNumbers}
+use Rattle.law_lines.specs.Fitting.{HasFittingNumbers}
 use Rattle.law_lines.specs.Values.{HasFrameValues}
 use Rattle.law_lines.proofs.Expressions.{IsResultOf, result_of}
 

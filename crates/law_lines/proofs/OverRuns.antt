@@ -1,5 +1,5 @@
 -- Along each run the values that the state keeps are of the plan, and so is each event that may follow.
-use Rattle.std.proofs.Common.{◌≡◌, ℕ, zero, suc, ◌+◌, ◌==◌, ◌<◌, ◌^◌, Bool, true, false, ◌&&◌, List, [], ◌∷◌, ◌++◌, ◌⊎◌, inl, inr, length, map, fold, take, Option, Some, None, option_and_then, slice_get, refl, sym, ap, subst, ◌∙◌, arith}
+use Rattle.std.proofs.Common.{◌≡◌, ℕ, zero, suc, ◌+◌, ◌==◌, ◌<◌, ◌^◌, true, ◌&&◌, List, [], ◌∷◌, ◌++◌, inl, inr, length, map, fold, take, Option, Some, None, option_and_then, slice_get, refl, sym, ap, subst, ◌∙◌, arith}
 use Rattle.std.specs.List.{range_with_len}
 use Rattle.std.proofs.lemmas.Bool.{eqb-true}
 use Rattle.std.proofs.lemmas.List.Sums.{fold-append}
@@ -20,18 +20,17 @@ use Rattle.wdf_base.specs.declared.declared.Declared.{Declared}
 use Rattle.wdf_model.specs.Tables.{entry}
 use Rattle.wdf_model.specs.Plans.{agent_count, agent_of_device}
 use Rattle.wdf_model.specs.parts.Tree.{cell_of, declared_node, gone, opening_tree}
-use Rattle.wdf_model.specs.State.{State, opening}
-use Rattle.wdf_model.specs.rules.Deeds.{counted, do_deeds, told}
+use Rattle.wdf_model.specs.State.{State}
+use Rattle.wdf_model.specs.rules.Deeds.{do_deeds, told}
 use Rattle.wdf_model.specs.rules.Posts.{due_of, post_answer, post_fits}
 use Rattle.wdf_model.specs.rules.Starts.{shown, value_of_agent}
 use Rattle.wdf_model.specs.rules.Steps.{after, deeds, may}
 use Rattle.wdf_model.specs.rules.Ready.{IsRunOf, ending_of, ready, state_after}
 use Rattle.wdf_model.proofs.Counting.{counted_first, counting_commutes}
 use Rattle.law_machine_base.proofs.Follows.{follows, state_goes_on}
-use Rattle.wdf_model.proofs.Runs.{along_run, split_last}
+use Rattle.wdf_model.proofs.Runs.{along_run}
 use Rattle.wdf_model.proofs.Tests.{both_left, both_right}
 use Rattle.law_machine_lives.proofs.Keeping.{at_the_end}
-use Rattle.wdf_model.specs.rules.Room.{AreDoable}
 use Rattle.law_machine_room.proofs.DoableRuns.{ready_doable}
 use Rattle.wdf_run_text.specs.Texts.{HasEventsOf, text_of}
 use Rattle.wdf_run_text.proofs.EventsOfPlans.{none_among, one_more}

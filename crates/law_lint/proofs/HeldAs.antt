@@ -20,7 +20,7 @@ use Rattle.wdf_lint.specs.declared.state.Abstract.{Abstract}
 use Rattle.wdf_lint.specs.declared.state.HeldLock.{HeldLock}
 use Rattle.wdf_lint.specs.declared.state.HeldLock.TheVariants as lock
 use Rattle.wdf_lint.specs.Abstracts.{lock_after}
-use Rattle.law_machine_lives.proofs.LocksOnce.{one_lock}
+use Rattle.wdf_model.proofs.Sames.{one_lock}
 use Rattle.law_trace_once.proofs.Words.{found_counts}
 use Rattle.law_lint.proofs.Frames.{Assigned, One, Same}
 use Rattle.law_lint.proofs.Holdings.{HasLock, Left, two_of}

@@ -21,7 +21,8 @@ use Rattle.wdf_model.proofs.Counts.{count_behind, count_cons, count_of_one, equa
 use Rattle.wdf_model.proofs.Tests.{both, both_left, both_right, not_true}
 use Rattle.law_machine_deeds.specs.MayDo.{is_start, may_do, releasing, second_part}
 use Rattle.law_machine_deeds.proofs.Passing.{event_passes}
-use Rattle.law_machine_lives.proofs.LocksOnce.{Once, one_lock}
+use Rattle.wdf_model.proofs.Sames.{one_lock}
+use Rattle.law_machine_lives.proofs.LocksOnce.{Once}
 use Rattle.law_machine_lives.proofs.PartsStay.{locks_stay}
 use Rattle.law_machine_lives.proofs.Counted.{split}
 use Rattle.law_trace_once.proofs.Words.{any_weaker, found_counts}

@@ -36,7 +36,7 @@ use Rattle.wdf_model.proofs.Counts.{equal}
 use Rattle.wdf_model.proofs.Tests.{both, both_left, both_right, not_true}
 use Rattle.law_machine_lives.proofs.Framing.{IsHeld}
 use Rattle.law_machine_lives.proofs.Lists.{Each}
-use Rattle.law_machine_lives.proofs.LocksOnce.{one_lock}
+use Rattle.wdf_model.proofs.Sames.{one_lock}
 use Rattle.law_machine_lives.proofs.Sound.{lock_of_frame}
 use Rattle.law_machine_lives.proofs.Leveled.{is_interrupt_lock}
 use Rattle.wdf_lint.specs.declared.state.Abstract.{Abstract}

@@ -8,18 +8,15 @@ use Rattle.wdf_base.specs.declared.declared.ExecutionLevel.TheVariants as level
 use Rattle.wdf_base.specs.declared.declared.DispatchKind.TheVariants as dispatch
 use Rattle.wdf_base.specs.declared.event.Post.TheVariants as post
 use Rattle.wdf_base.specs.declared.event.Fault.TheVariants as fault
-use Rattle.wdf_base.specs.declared.event.Event.{Event}
 use Rattle.wdf_base.specs.declared.event.Event.TheVariants as event
 use Rattle.wdf_base.specs.declared.script.ExprNode.TheVariants as node
 use Rattle.wdf_base.specs.declared.script.ContextWord.TheVariants as context
 use Rattle.wdf_base.specs.declared.script.Operator.TheVariants as operator
 use Rattle.wdf_base.specs.declared.script.ArgNode.TheVariants as arg
 use Rattle.wdf_base.specs.declared.script.Act.TheVariants as act
-use Rattle.wdf_base.specs.declared.call.Arg.TheVariants.{Val, Class}
 use Rattle.wdf_base.specs.declared.call.CallKind.TheVariants as call
 use Rattle.wdf_base.specs.declared.call.Callback.TheVariants as callback
 use Rattle.wdf_base.specs.declared.value.Status.TheVariants as status
-use Rattle.wdf_base.specs.declared.value.Value.TheVariants.{Num, Obj, Stat}
 use Rattle.wdf_base.specs.declared.plan.Plan.{Plan}
 use Rattle.law_lint_worked.specs.Writing.{h, at, s}
 use Rattle.wdf_base.specs.declared.declared.PlainKind.TheVariants as plain

@@ -1,10 +1,9 @@
 -- The findings, computed: layer by layer, each state with the least lines among the walks of its length.
-use Rattle.std.specs.Prelude.{if◌then◌else◌, ℕ, zero, suc, ◌+◌, Bool, true, false, ◌==◌, nat_lt, not, ◌&&◌, ◌||◌, List, [], ◌∷◌, ◌++◌, map, filter, fold, length, Option, Some, None, slice_get}
+use Rattle.std.specs.Prelude.{if◌then◌else◌, ℕ, zero, suc, ◌+◌, Bool, true, false, ◌==◌, nat_lt, not, ◌&&◌, ◌||◌, List, [], ◌∷◌, ◌++◌, map, filter, fold, length, Some, None}
 use Rattle.std.specs.List.{flat_map, list_any, range_with_len}
 use Rattle.wdf_base.specs.declared.plan.Plan.{Plan}
 use Rattle.wdf_base.specs.declared.event.Fault.{Fault}
 use Rattle.wdf_base.specs.Same.{same_status, same_fault}
-use Rattle.wdf_base.specs.declared.words.TheConstants.{FAULTS}
 use Rattle.wdf_lint.specs.declared.state.Known.{Known}
 use Rattle.wdf_lint.specs.declared.state.Known.TheVariants as known
 use Rattle.wdf_lint.specs.declared.state.Hold.{Hold}

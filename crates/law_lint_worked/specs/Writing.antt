@@ -1,5 +1,5 @@
 -- Short words for plans that are written out.
-use Rattle.std.specs.Prelude.{ℕ, Option}
+use Rattle.std.specs.Prelude.{ℕ}
 use Rattle.wdf_base.specs.declared.ids.Handle.{Handle}
 use Rattle.wdf_base.specs.declared.declared.PostLine.{PostLine}
 use Rattle.wdf_base.specs.declared.event.Post.{Post}

@@ -1,5 +1,5 @@
 -- What some events leave alone, and what they name.
-use Rattle.std.proofs.Common.{arith, ◌≡◌, ℕ, true, false, ◌&&◌, List, [], ◌∷◌, inl, inr, Option, Some, None, map, slice_get, refl, ap}
+use Rattle.std.proofs.Common.{arith, ◌≡◌, ℕ, true, false, ◌&&◌, List, [], ◌∷◌, inl, inr, Option, Some, None, slice_get, refl, ap}
 use Rattle.wdf_base.specs.Meaning.{Meaning}
 use Rattle.wdf_base.specs.declared.ids.Cpu.{Cpu}
 use Rattle.wdf_base.specs.declared.ids.Handle.{Handle}

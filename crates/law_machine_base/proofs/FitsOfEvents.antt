@@ -1,7 +1,6 @@
 -- The deeds of each event that may follow fit where they are done.
-use Rattle.std.proofs.Common.{if◌then◌else◌, ◌≡◌, ℕ, ◌==◌, nat_lt, Bool, true, false, not, ◌&&◌, ◌||◌, List, [], ◌∷◌, ◌++◌, Option, Some, None, is_some, map, option_and_then, refl, arith}
+use Rattle.std.proofs.Common.{if◌then◌else◌, ◌≡◌, ℕ, ◌==◌, nat_lt, Bool, true, false, not, ◌&&◌, ◌||◌, List, [], ◌∷◌, ◌++◌, Option, Some, None, is_some, option_and_then, refl, arith}
 use Rattle.std.proofs.lemmas.Bool.Decides.{nat_tests}
-use Rattle.std.specs.List.{flat_map}
 use Rattle.wdf_base.specs.Meaning.{Meaning}
 use Rattle.wdf_base.specs.declared.ids.Cpu.{Cpu}
 use Rattle.wdf_base.specs.declared.ids.Handle.{Handle}
@@ -36,7 +35,7 @@ use Rattle.wdf_base.specs.declared.call.Callback.TheVariants as callback
 use Rattle.wdf_base.specs.Same.{same_handle, same_option, same_post, same_step}
 use Rattle.wdf_base.specs.Lives.{is_live}
 use Rattle.wdf_base.specs.Places.{is_closing, is_done, is_sent, is_sent_to}
-use Rattle.wdf_model.specs.Plans.{callback_irql, managed_queues, queue_for, queues_of, has_handler, is_manual_queue, queue_of, target_of_agent}
+use Rattle.wdf_model.specs.Plans.{callback_irql, queue_for, has_handler, is_manual_queue, queue_of, target_of_agent}
 use Rattle.wdf_model.specs.parts.Tree.{life_of, nearest_device}
 use Rattle.wdf_model.specs.parts.Cpus.{frame_of, top}
 use Rattle.wdf_model.specs.parts.Locks.{is_free_if_any, is_free_lock, lock_of_callback}

@@ -19,7 +19,7 @@ use Rattle.wdf_model.specs.declared.entries.Node.{Node}
 use Rattle.wdf_model.specs.declared.entries.Request.{Request}
 use Rattle.wdf_model.specs.declared.entries.Sending.{Sending}
 use Rattle.wdf_model.specs.Plans.{managed_queues, queues_of}
-use Rattle.wdf_model.specs.Tables.{ids_of, flag}
+use Rattle.wdf_model.specs.Tables.{flag}
 use Rattle.wdf_model.specs.parts.Tree.{Tree, gone, is_full, kind_of, life_of, nearest_device, new_node, next_id, node_of, noted, subtree, with_life, with_node}
 use Rattle.wdf_model.specs.parts.Tree as tree
 use Rattle.wdf_model.specs.parts.Requests.{Requests, cancelled, has_arrived, mark_of, made_info, marked, moved, place_of, unmarked, with_mark, is_over, no_request, request_of, closed_at, is_in}

@@ -70,7 +70,7 @@ sent_undone : (p : Place) → is_sent p ≡ true → is_done p ≡ false
 sent_undone place.Done h = absurd (let z : ⊥ = cc in z)
 sent_undone _ h = refl
 
-back_at : (T : Targets) (r u : ℕ) → (the_target (targets.back T r) u).sent ≡ filter (λ s. not (s.request.0 == r)) (the_target T u).sent
+pub back_at : (T : Targets) (r u : ℕ) → (the_target (targets.back T r) u).sent ≡ filter (λ s. not (s.request.0 == r)) (the_target T u).sent
 back_at T r u = ap (λ (y : Target). y.sent) (entry_map no_target T.targets (without_sending r) u refl)
 
 less_back : {F B : ℕ → Bool} {R : Requests} {Q : Queues} {T : Targets} {N : Tree} (r u : ℕ) → Kept F B R Q T N → arrived R r ≡ false → forgets (targets.back T r) u r ≡ 0
@@ -95,7 +95,7 @@ come_back {F} {B} {R} {Q} {T} {N} r k h = move_request r place.Owned k (sent_und
 
 -- ---- its target is done with it
 
-left_at : (T : Targets) (r : ℕ) (status : Status) (u : ℕ) → (the_target (targets.done T r status) u).sent ≡ left_over r status (the_target T u).sent
+pub left_at : (T : Targets) (r : ℕ) (status : Status) (u : ℕ) → (the_target (targets.done T r status) u).sent ≡ left_over r status (the_target T u).sent
 left_at T r status u = ap (λ (y : Target). y.sent) (entry_map no_target T.targets (target_done r status) u refl)
 
 finished_still : (u : ℕ) (b : Bool) (s : Status) (t : ℕ) → flag (is_sent_to u (finished_at b s (place.Sent (record { 0 = t })))) ≡ (if b then 0 else flag (t == u))

@@ -18,7 +18,6 @@ use Rattle.wdf_base.specs.declared.call.CallKind.{CallKind}
 use Rattle.wdf_base.specs.declared.call.CallKind.TheVariants as call
 use Rattle.wdf_base.specs.declared.declared.Declared.{Declared}
 use Rattle.wdf_base.specs.declared.declared.Declared.TheVariants as declared
-use Rattle.wdf_base.specs.declared.declared.QueueInfo.{QueueInfo}
 use Rattle.wdf_base.specs.declared.declared.TargetInfo.{TargetInfo}
 use Rattle.wdf_base.specs.declared.event.Event.{Event}
 use Rattle.wdf_base.specs.declared.event.Event.TheVariants as event
@@ -29,7 +28,7 @@ use Rattle.wdf_base.specs.Places.{is_closing, is_done}
 use Rattle.wdf_model.specs.declared.entries.Request.{Request}
 use Rattle.wdf_model.specs.Runs.{IsRun}
 use Rattle.wdf_model.specs.Tables.{entry, flag}
-use Rattle.wdf_model.specs.Plans.{declared_ids, queue_of, target_of}
+use Rattle.wdf_model.specs.Plans.{declared_ids, target_of}
 use Rattle.wdf_model.specs.parts.Tree.{declared_node, gone, kind_of, life_of, next_id, opening_tree}
 use Rattle.wdf_model.specs.parts.Requests.{Requests, has_arrived, moved, place_of}
 use Rattle.wdf_model.specs.parts.Requests as requests

@@ -20,7 +20,6 @@ use Rattle.wdf_base.specs.Same.{same_event, same_option}
 use Rattle.wdf_model.specs.Ids.{cpu_of}
 use Rattle.wdf_model.specs.parts.Cpus.{frame_of, top}
 use Rattle.wdf_model.specs.State.{State}
-use Rattle.wdf_model.specs.rules.Deeds.{do_deeds}
 use Rattle.wdf_model.specs.rules.Script.{intent_of}
 use Rattle.wdf_model.specs.rules.Faults.{View, fault_of, holds_of}
 use Rattle.wdf_model.specs.rules.Calls.{is_met, outcome, is_met_then}

@@ -20,7 +20,7 @@ use Rattle.wdf_model.specs.declared.enums.Mode.TheVariants as mode
 use Rattle.wdf_model.specs.declared.entries.Node.{Node}
 use Rattle.wdf_model.specs.Tables.{entry}
 use Rattle.wdf_model.specs.Plans.{managed_queues, queues_of}
-use Rattle.wdf_model.specs.parts.Tree.{Tree, asked_if_live, declared_node, gone, is_full, kind_of, life_of, new_node, next_id, node_of, noted, subtree, with_life, with_node}
+use Rattle.wdf_model.specs.parts.Tree.{Tree, declared_node, gone, is_full, kind_of, life_of, new_node, next_id, node_of, noted, subtree, with_life, with_node}
 use Rattle.wdf_model.specs.parts.Tree as tree
 use Rattle.wdf_model.specs.parts.Requests as requests
 use Rattle.wdf_model.specs.parts.Queues.{waiting_in}

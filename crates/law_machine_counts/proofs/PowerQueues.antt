@@ -11,7 +11,6 @@ use Rattle.wdf_base.specs.declared.object.Place.TheVariants as place
 use Rattle.wdf_model.specs.declared.enums.Mode.TheVariants as mode
 use Rattle.wdf_model.specs.Plans.{is_managed, managed_queues, queues_of}
 use Rattle.wdf_model.specs.parts.Requests as requests
-use Rattle.wdf_model.specs.parts.Requests.{place_of}
 use Rattle.wdf_model.specs.parts.Queues.{Queues, waiting_in}
 use Rattle.wdf_model.specs.parts.Control as control
 use Rattle.wdf_model.specs.parts.Power.{Power, advance_stage, holding_of, is_held, opening_power}
@@ -22,7 +21,6 @@ use Rattle.wdf_model.specs.declared.deed.Deed.TheVariants.{Arrive, AskDeletion, 
 use Rattle.wdf_model.specs.rules.Deeds.{arrive_at, ask_objects, close_queue, close_returning, do_deed, do_deeds, give_up, give_up_if, release_power, withdraw}
 use Rattle.wdf_base.specs.declared.object.Place.{Place}
 use Rattle.wdf_base.specs.declared.object.RequestInfo.{RequestInfo}
-use Rattle.wdf_base.specs.Places.{is_returning_to}
 use Rattle.wdf_model.specs.rules.Steps.{deeds}
 use Rattle.wdf_model.specs.rules.Ready.{IsRunOf, ready, state_after}
 use Rattle.wdf_model.proofs.Runs.{along_run}

@@ -6,7 +6,7 @@ use Rattle.wdf_model.specs.declared.entries.Holding.{Holding}
 use Rattle.wdf_model.specs.Tables.{flag, same_id}
 use Rattle.wdf_model.specs.Plans.{is_managed}
 use Rattle.wdf_model.specs.parts.Requests.{Requests, origin_of}
-use Rattle.wdf_model.specs.parts.Queues.{Queues, held_count, with_held}
+use Rattle.wdf_model.specs.parts.Queues.{Queues, held_count}
 use Rattle.wdf_model.specs.parts.Queues as queues
 use Rattle.wdf_model.specs.parts.Targets.{Targets}
 use Rattle.wdf_model.specs.parts.Power.{Power, holding_of, is_held, no_holding, with_holding}

@@ -29,7 +29,7 @@ use Rattle.wdf_model.proofs.FrameCounts.{flag_small, on, seen}
 
 -- ---- a step is taken
 
-passed_running : (s : Stage) (q : Sequence) → (passed s q).running ≡ q.running
+pub passed_running : (s : Stage) (q : Sequence) → (passed s q).running ≡ q.running
 passed_running stage.Working q = refl
 passed_running stage.Sleeping q = refl
 passed_running stage.Removed q = refl

@@ -12,7 +12,6 @@ use Rattle.wdf_base.specs.declared.call.Callback.{Callback}
 use Rattle.wdf_base.specs.declared.call.Callback.TheVariants as callback
 use Rattle.wdf_base.specs.declared.event.Ask.{Ask}
 use Rattle.wdf_base.specs.Lives.{is_asked, is_gone, is_live, is_past_cleanup}
-use Rattle.wdf_base.specs.Places.{is_returning_to}
 use Rattle.wdf_model.specs.declared.enums.Mode.TheVariants as mode
 use Rattle.wdf_model.specs.declared.entries.Node.{Node}
 use Rattle.wdf_model.specs.Plans.{managed_queues, queues_of}
@@ -22,7 +21,6 @@ use Rattle.wdf_model.specs.parts.Queues.{Queues, waiting_in}
 use Rattle.wdf_model.specs.parts.Control as control
 use Rattle.wdf_model.specs.parts.Power.{Power}
 use Rattle.wdf_model.specs.parts.Requests as requests
-use Rattle.wdf_model.specs.parts.Requests.{place_of}
 use Rattle.wdf_model.specs.parts.Pnp.{Sequence, Pnp, is_running_step, no_sequence, sequence_of, steps_for}
 use Rattle.wdf_model.specs.parts.Pnp as pnp
 use Rattle.std.specs.List.{list_all}

@@ -1,7 +1,7 @@
 -- Facts of tests joined by "or" and "and".
 use Rattle.std.proofs.Common.{◌≡◌, Bool, true, false, ◌||◌, refl, inl, inr, ◌&&◌, not}
 use Rattle.std.proofs.lemmas.Bool.{or_cases}
-use Rattle.wdf_model.proofs.Tests.{first, left_fails, right_fails, second}
+use Rattle.wdf_model.proofs.Tests.{first, second}
 
 pub left_of : (a b : Bool) → b ≡ false → (a || b) ≡ true → a ≡ true
 left_of true b e h = refl

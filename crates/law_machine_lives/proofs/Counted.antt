@@ -18,7 +18,7 @@ use Rattle.wdf_model.specs.rules.Calls.{level_of_kind}
 use Rattle.wdf_model.proofs.Tests.{both_left, both_right}
 use Rattle.wdf_model.proofs.Counts.{count_behind, count_cons, count_no, count_of_one}
 use Rattle.law_machine_lives.proofs.Lists.{Each}
-use Rattle.law_machine_lives.proofs.LocksOnce.{one_lock}
+use Rattle.wdf_model.proofs.Sames.{one_lock}
 
 -- the level of a lock, by the kind of its object
 abbrev pub height : Plan → Tree → LockRef → ℕ

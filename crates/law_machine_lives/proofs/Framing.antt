@@ -31,7 +31,7 @@ use Rattle.law_machine_base.proofs.FitsOfEvents.{event_fits}
 use Rattle.law_machine_counts.proofs.FrameMoves.{FrameKept}
 use Rattle.law_machine_lives.proofs.Keeping.{at_the_end, each_place}
 use Rattle.law_machine_lives.proofs.Lists.{Each, each_behind, each_kept, each_still}
-use Rattle.law_machine_lives.proofs.LocksOnce.{lock_itself}
+use Rattle.wdf_model.proofs.Sames.{lock_itself}
 use Rattle.law_machine_lives.proofs.Sound.{AllSound, Sound, lock_of_frame}
 use Rattle.law_machine_lives.proofs.SoundEvents.{HoldsNone, event_sound, same_declared}
 use Rattle.law_machine_lives.proofs.There.{StaysAt, deed_there}

@@ -23,7 +23,8 @@ use Rattle.wdf_model.proofs.Maps.{entry_put_other, entry_put_same}
 use Rattle.wdf_model.proofs.Counts.{count_cons, equal, filter_kept, filter_none, not_equal, one_or_two}
 use Rattle.law_machine_counts.proofs.FrameMoves.{pop_off, pop_on}
 use Rattle.law_machine_lives.proofs.Lists.{Each, each_behind, each_kept}
-use Rattle.law_machine_lives.proofs.LocksOnce.{Once, lock_itself}
+use Rattle.wdf_model.proofs.Sames.{lock_itself}
+use Rattle.law_machine_lives.proofs.LocksOnce.{Once}
 use Rattle.law_machine_lives.proofs.FramesStay.{Begins, begins}
 use Rattle.law_machine_lives.proofs.Counted.{called, called_less, called_more, height, is_called, is_raised, owns, owns_less, owns_more, raised}
 use Rattle.law_machine_lives.proofs.Leveled.{EarlyIfCalled, Leveled, awaited, is_interrupt_lock, own_of}

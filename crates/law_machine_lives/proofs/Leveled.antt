@@ -19,7 +19,7 @@ use Rattle.wdf_model.specs.declared.entries.Running.{Running}
 use Rattle.wdf_model.specs.Tables.{flag}
 use Rattle.wdf_model.specs.Plans.{callback_irql}
 use Rattle.wdf_model.specs.parts.Tree.{Tree, declared_as, kind_of, life_of}
-use Rattle.wdf_model.specs.parts.Cpus.{Cpus, frame_of, levels_without, no_frame, running, top}
+use Rattle.wdf_model.specs.parts.Cpus.{Cpus, frame_of, no_frame, running}
 use Rattle.wdf_model.specs.parts.Cpus as cpus
 use Rattle.wdf_model.specs.parts.Locks.{Locks, lock_of_callback}
 use Rattle.wdf_model.specs.parts.Locks as locks

@@ -1,8 +1,7 @@
 -- A lock is held at most once, at each place of every run.
-use Rattle.std.proofs.Common.{if◌then◌else◌, ◌≡◌, ℕ, ◌+◌, ◌==◌, ◌≤◌, Bool, true, false, not, List, [], ◌∷◌, inl, inr, Some, find, count_by, take, refl, sym, ap, subst, ◌∙◌, arith}
-use Rattle.std.proofs.lemmas.Bool.{cases_Bool, eqb-true}
+use Rattle.std.proofs.Common.{if◌then◌else◌, ◌≡◌, ℕ, ◌+◌, ◌≤◌, Bool, true, false, not, List, [], ◌∷◌, inl, inr, Some, find, count_by, take, refl, sym, ap, subst, ◌∙◌, arith}
+use Rattle.std.proofs.lemmas.Bool.{cases_Bool}
 use Rattle.wdf_base.specs.Meaning.{Meaning}
-use Rattle.wdf_base.specs.declared.ids.ObjectId.{ObjectId}
 use Rattle.wdf_base.specs.declared.plan.Plan.{Plan}
 use Rattle.wdf_base.specs.declared.event.Event.{Event}
 use Rattle.wdf_base.specs.declared.object.LockRef.{LockRef}
@@ -19,31 +18,11 @@ use Rattle.wdf_model.specs.rules.Deeds.{do_deed}
 use Rattle.wdf_model.specs.rules.Steps.{deeds}
 use Rattle.wdf_model.specs.rules.Ready.{IsRunOf, state_after}
 use Rattle.law_machine_base.specs.Fits.{fits}
-use Rattle.wdf_model.proofs.Counts.{count_behind, count_cons, count_of_one, equal, filter_less}
+use Rattle.wdf_model.proofs.Sames.{one_lock}
+use Rattle.wdf_model.proofs.Counts.{count_behind, count_cons, count_of_one, filter_less}
 use Rattle.law_machine_base.proofs.FitsOfEvents.{event_fits}
 use Rattle.law_machine_lives.proofs.Keeping.{deeds_keep, each_place}
 use Rattle.law_machine_lives.proofs.PartsStay.{locks_stay}
-
--- ---- when two locks are one
-
-same_ids : (a b : ObjectId) → (a.0 == b.0) ≡ true → a ≡ b
-same_ids a b e = ap (λ n. record { 0 = n }) (eqb-true a.0 b.0 e)
-
-pub one_lock : (a b : LockRef) → same_lock a b ≡ true → a ≡ b
-one_lock (lock.Object a) (lock.Object b) e = ap lock.Object (same_ids a b e)
-one_lock (lock.DeviceScope a) (lock.DeviceScope b) e = ap lock.DeviceScope (same_ids a b e)
-one_lock (lock.QueueScope a) (lock.QueueScope b) e = ap lock.QueueScope (same_ids a b e)
-one_lock (lock.Object a) (lock.DeviceScope b) e = absurd (let z : ⊥ = cc in z)
-one_lock (lock.Object a) (lock.QueueScope b) e = absurd (let z : ⊥ = cc in z)
-one_lock (lock.DeviceScope a) (lock.Object b) e = absurd (let z : ⊥ = cc in z)
-one_lock (lock.DeviceScope a) (lock.QueueScope b) e = absurd (let z : ⊥ = cc in z)
-one_lock (lock.QueueScope a) (lock.Object b) e = absurd (let z : ⊥ = cc in z)
-one_lock (lock.QueueScope a) (lock.DeviceScope b) e = absurd (let z : ⊥ = cc in z)
-
-pub lock_itself : (a : LockRef) → same_lock a a ≡ true
-lock_itself (lock.Object a) = equal a.0 a.0 refl
-lock_itself (lock.DeviceScope a) = equal a.0 a.0 refl
-lock_itself (lock.QueueScope a) = equal a.0 a.0 refl
 
 -- ---- a lock is taken, or given back
 

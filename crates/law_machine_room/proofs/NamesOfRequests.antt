@@ -8,9 +8,9 @@ use Rattle.wdf_base.specs.declared.object.Place.{Place}
 use Rattle.wdf_base.specs.declared.object.Place.TheVariants as place
 use Rattle.wdf_base.specs.declared.object.Mark.TheVariants as mark
 use Rattle.wdf_base.specs.declared.object.RequestInfo.{RequestInfo}
-use Rattle.wdf_base.specs.Places.{is_marked, is_queued_in, is_returning_to}
+use Rattle.wdf_base.specs.Places.{is_marked, is_returning_to}
 use Rattle.wdf_model.specs.declared.entries.Request.{Request}
-use Rattle.wdf_model.specs.parts.Requests.{Requests, cancelled, closed_at, forgotten, is_in, is_over, marked, moved, no_request, origin_from, place_of, request_of, unmarked, with_mark, with_request}
+use Rattle.wdf_model.specs.parts.Requests.{Requests, cancelled, closed_at, forgotten, is_in, is_over, marked, moved, no_request, origin_from, request_of, unmarked, with_mark, with_request}
 use Rattle.wdf_model.specs.parts.Requests as requests
 use Rattle.wdf_model.specs.rules.Deeds.{finished_at}
 use Rattle.wdf_model.proofs.Tests.{first}

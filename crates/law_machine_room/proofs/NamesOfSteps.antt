@@ -24,7 +24,7 @@ use Rattle.wdf_model.specs.declared.enums.Phase.{Phase}
 use Rattle.wdf_model.specs.declared.enums.Phase.TheVariants.{Off, Working, Sleeping, Removed}
 use Rattle.wdf_model.specs.Tables.{first_of_list}
 use Rattle.wdf_model.specs.Plans.{as_device, device_of, interrupts_of}
-use Rattle.wdf_model.specs.parts.Pnp.{DeviceSteps, InterruptSteps, Pnp, Sequence, disable_steps, down_steps, enable_steps, end_steps, flush_steps, hard_steps, interrupt_steps, is_success, left_after, left_after_failure, no_sequence, opening_pnp, opening_sequence, pass, passed, quiet_steps, run, run_if, self_managed_start, sequence_of, steps_for, steps_left, steps_off, steps_sleeping, steps_working, tail_steps, taken_step, up_steps, with_sequence, with_step}
+use Rattle.wdf_model.specs.parts.Pnp.{DeviceSteps, InterruptSteps, Pnp, Sequence, disable_steps, down_steps, enable_steps, end_steps, flush_steps, hard_steps, interrupt_steps, is_success, left_after, left_after_failure, no_sequence, opening_pnp, opening_sequence, pass, passed, quiet_steps, run, run_if, self_managed_start, sequence_of, steps_for, steps_off, steps_sleeping, steps_working, tail_steps, taken_step, up_steps, with_sequence, with_step}
 use Rattle.wdf_model.specs.parts.Pnp as pnp
 use Rattle.wdf_model.proofs.Counts.{one_or_two}
 use Rattle.wdf_model.proofs.Maps.{entry_past, entry_put_other, entry_put_same}
@@ -279,7 +279,7 @@ no_device_past : (plan : Plan) (d : ℕ) → table_size plan ≤ d → device_of
 no_device_past plan zero h = absurd (omega arith)
 no_device_past plan (suc k) h = past_by plan k (slice_get plan.declared k) refl (omega arith)
 
-opening_read : (plan : Plan) (d : ℕ) → sequence_of (opening_pnp plan) d ≡ opening_sequence plan d (device_of plan d)
+pub opening_read : (plan : Plan) (d : ℕ) → sequence_of (opening_pnp plan) d ≡ opening_sequence plan d (device_of plan d)
 opening_read plan d = elim (cases_lt d (table_size plan)) [
   | inl within ↦ get_or-map-range_with_len (λ x. opening_sequence plan x (device_of plan x)) 0 (table_size plan) d d no_sequence within (omega arith)
   | inr past ↦

@@ -11,7 +11,7 @@ use Rattle.wdf_base.specs.declared.event.Stage.TheVariants as stage
 use Rattle.wdf_base.specs.declared.event.Step.{Step}
 use Rattle.wdf_base.specs.declared.event.Step.TheVariants as step
 use Rattle.wdf_model.specs.Tables.{entry}
-use Rattle.wdf_model.specs.parts.Pnp.{Pnp, Sequence, busy, is_success, left_after, left_after_failure, no_sequence, run, running_step, sequence_of, steps_for, steps_left, tail_steps, taken_step}
+use Rattle.wdf_model.specs.parts.Pnp.{Pnp, Sequence, busy, is_success, left_after, left_after_failure, no_sequence, run, running_step, sequence_of, steps_for, tail_steps, taken_step}
 use Rattle.wdf_model.specs.parts.Pnp as pnp
 use Rattle.wdf_model.specs.State.{State}
 use Rattle.wdf_model.proofs.Maps.{entry_put_other, entry_put_same}

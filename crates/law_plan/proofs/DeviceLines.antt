@@ -1,5 +1,5 @@
 -- What is declared in a device is of the device whose line opened its block.
-use Rattle.std.proofs.Common.{◌≡◌, ℕ, true, cond, List, drop, Option, Some, None, slice_get, refl, ap, sym}
+use Rattle.std.proofs.Common.{◌≡◌, ℕ, true, cond, drop, Option, Some, None, slice_get, refl, ap, sym}
 use Rattle.std.specs.Prelude.{option_and_then}
 use Rattle.std.specs.Option.{unwrap_or}
 use Rattle.wdf_base.specs.declared.declared.Declared.{Declared}

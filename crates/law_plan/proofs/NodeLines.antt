@@ -14,7 +14,7 @@ use Rattle.wdf_scene.specs.declared.line.SceneLine.TheVariants as line
 use Rattle.wdf_scene.specs.declared.line.StatementHead.{StatementHead}
 use Rattle.wdf_scene.specs.declared.line.StatementHead.TheVariants as head
 use Rattle.wdf_scene.specs.declared.scene.Scene.{Scene}
-use Rattle.wdf_scene.specs.Written.{Argument, Missing, Valued, OfClass, Written, Plain, Picked, Single, Calling, IsScene, size, root, head_line, argument_size, numbered_argument, line_at, is_plain_form, is_written}
+use Rattle.wdf_scene.specs.Written.{Argument, Missing, OfClass, Written, Plain, Picked, Single, Calling, IsScene, size, root, head_line, argument_size, numbered_argument, line_at, is_plain_form, is_written}
 use Rattle.wdf_blocks.specs.declared.declaration.Declaration.{Declaration}
 use Rattle.wdf_blocks.specs.declared.declaration.Wanted.TheVariants as wanted
 use Rattle.wdf_blocks.specs.declared.placed.Counts.{Counts}

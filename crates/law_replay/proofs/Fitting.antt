@@ -6,7 +6,6 @@ use Rattle.wdf_base.specs.Plan.{posts_of}
 use Rattle.wdf_base.specs.declared.plan.Plan.{Plan}
 use Rattle.wdf_base.specs.declared.declared.PostLine.{PostLine}
 use Rattle.wdf_base.specs.declared.declared.RegisterInfo.{RegisterInfo}
-use Rattle.wdf_base.specs.declared.declared.WhenLine.{WhenLine}
 use Rattle.wdf_base.specs.declared.event.Access.{Access}
 use Rattle.wdf_base.specs.declared.event.Access.TheVariants as access
 use Rattle.wdf_base.specs.declared.event.Action.{Action}
@@ -19,8 +18,8 @@ use Rattle.wdf_model.specs.declared.entries.DeviceAction.{DeviceAction}
 use Rattle.wdf_model.specs.declared.entries.SentRequest.{SentRequest}
 use Rattle.wdf_model.specs.Tables.{entry, in_order_by, put}
 use Rattle.wdf_model.specs.Plans.{device_of_agent, device_of_register, is_app, target_of_agent}
-use Rattle.wdf_model.specs.agents.App.{App, after_post, app_after, app_due, due_line, next_line}
-use Rattle.wdf_model.specs.agents.Device.{Device, accessed, act_on, among, at_action, at_once, delay_of, device_actions, device_after, device_due, device_value, due_action, first_done, has_register, is_due_at, own_register, posted_action, register_of, set_off, set_off_all, stored, triggers, when_action, with_register, without_tick}
+use Rattle.wdf_model.specs.agents.App.{App, app_after, due_line, next_line}
+use Rattle.wdf_model.specs.agents.Device.{Device, accessed, act_on, among, at_action, at_once, delay_of, device_after, device_value, due_action, first_done, has_register, is_due_at, own_register, posted_action, register_of, set_off, set_off_all, stored, triggers, when_action, with_register, without_tick}
 use Rattle.wdf_model.specs.agents.LowerTarget.{done_post}
 use Rattle.wdf_model.proofs.Counts.{one_or_two}
 use Rattle.wdf_model.proofs.Maps.{entry_put_other, entry_put_same}

@@ -8,7 +8,7 @@ use Rattle.wdf_base.specs.declared.plan.Plan.{Plan}
 use Rattle.wdf_base.specs.declared.event.Event.{Event}
 use Rattle.wdf_base.specs.declared.event.Ending.{Ending}
 use Rattle.wdf_base.specs.declared.event.Ending.TheVariants as ending
-use Rattle.wdf_model.specs.rules.Ready.{IsRunOf, ending_of, ready}
+use Rattle.wdf_model.specs.rules.Ready.{IsRunOf}
 use Rattle.wdf_model.proofs.Runs.{slice_get-append-left, slice_get-append-right, slice_get-take}
 use Rattle.wdf_lines.specs.Lines.{line_text}
 use Rattle.wdf_trace.specs.Events.{IsEventOf}
@@ -16,9 +16,8 @@ use Rattle.wdf_run_text.specs.Lines.{fed, trace_lines}
 use Rattle.wdf_run_text.specs.Texts.{event_lines, end_lines, lines_so_far, HasEventsOf}
 use Rattle.wdf_replay.specs.declared.verdict.Why.{Why}
 use Rattle.wdf_replay.specs.declared.verdict.Why.TheVariants as why
-use Rattle.wdf_replay.specs.declared.verdict.Verdict.{Verdict}
 use Rattle.wdf_replay.specs.declared.verdict.Verdict.TheVariants as verdict
-use Rattle.wdf_replay.specs.Verdicts.{IsAccepted, IsBad, IsBadFor, IsBadLine, IsEventText, IsRefused, IsWhole, GivesVerdict}
+use Rattle.wdf_replay.specs.Verdicts.{IsAccepted, IsBad, IsBadFor, IsEventText, IsRefused, IsWhole}
 use Rattle.wdf_replay.proofs.RunLines.{fed_once, length-event_lines, no_end_lines, runs_on}
 use Rattle.wdf_replay.proofs.Complete.{at_front, complete, few, follows, next_is_good, same_line}
 use Rattle.law_replay.specs.Claims.{HasOneVerdict}

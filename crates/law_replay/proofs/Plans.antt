@@ -1,5 +1,5 @@
 -- The plan of a scene whose numbers fit has numbers that fit.
-use Rattle.std.proofs.Common.{◌≡◌, ℕ, zero, suc, ◌+◌, ◌-◌, ◌<◌, ◌≤◌, ◌^◌, Bool, true, false, cond, List, [], ◌∷◌, ◌++◌, length, map, take, drop, Option, Some, None, option_map, slice_get, refl, subst, arith, nat_lt}
+use Rattle.std.proofs.Common.{◌≡◌, ℕ, zero, suc, ◌+◌, ◌-◌, ◌<◌, ◌≤◌, ◌^◌, Bool, true, false, cond, List, [], ◌∷◌, ◌++◌, length, map, take, drop, Option, Some, None, option_map, slice_get, refl, arith, nat_lt}
 use Rattle.std.specs.List.{cons_option, filter_map, flat_map}
 use Rattle.wdf_base.specs.Plan.{agent_posts, posts_of}
 use Rattle.wdf_base.specs.declared.declared.Declared.{Declared}
@@ -7,7 +7,6 @@ use Rattle.wdf_base.specs.declared.declared.PostLine.{PostLine}
 use Rattle.wdf_base.specs.declared.declared.RegisterInfo.{RegisterInfo}
 use Rattle.wdf_base.specs.declared.declared.WhenLine.{WhenLine}
 use Rattle.wdf_base.specs.declared.event.Post.TheVariants as post
-use Rattle.wdf_base.specs.declared.plan.Plan.{Plan}
 use Rattle.wdf_base.specs.declared.script.Act.{Act}
 use Rattle.wdf_base.specs.declared.script.AgentInfo.{AgentInfo}
 use Rattle.wdf_base.specs.declared.script.ExprNode.{ExprNode}
@@ -32,11 +31,11 @@ use Rattle.wdf_blocks.specs.declared.placed.Stand.{Stand}
 use Rattle.wdf_blocks.specs.Declarations.{declarations}
 use Rattle.wdf_blocks.specs.Forms.{is_end, nodes_end}
 use Rattle.wdf_refusals.specs.Numbers.{action_of}
-use Rattle.wdf_plan.specs.Parts.{agent, app_agent, app_post, app_post_in, device_agent, device_post, device_post_in, pnp_post, register_on, stands_in, target_agent, when_on}
+use Rattle.wdf_plan.specs.Parts.{app_agent, app_post, app_post_in, device_agent, device_post, device_post_in, pnp_post, register_on, stands_in, target_agent, when_on}
 use Rattle.wdf_blocks.specs.Placed.{counted, nothing, opened_by, outside, placed, placed_from}
 use Rattle.wdf_plan.specs.Plans.{all_agents, plan_of, plan_with}
 use Rattle.wdf_refusals.specs.Rows.{nodes_of}
-use Rattle.wdf_plan.specs.Scripts.{act_on, nests_after, ends_callback, loop_line, named_node, nest_at, node_of, nodes_on, number_after, outer, owner_of, script_on, statement_at, statement_on, statements_from, statements_of, told_line}
+use Rattle.wdf_plan.specs.Scripts.{act_on, nests_after, ends_callback, loop_line, named_node, nest_at, node_of, nodes_on, number_after, owner_of, script_on, statement_at, statement_on, statements_from, statements_of, told_line}
 use Rattle.wdf_blocks.specs.Variables.{variable_number, variables, variables_at}
 use Rattle.wdf_refusals.proofs.Every.{Every, every_append, every_at, every_kept, some_has}
 use Rattle.law_lines.specs.PostNumbers.{ActionNumbersFit, PostNumbersFit}

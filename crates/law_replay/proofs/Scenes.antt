@@ -14,7 +14,7 @@ use Rattle.wdf_scene.specs.declared.line.SceneLine.TheVariants as line
 use Rattle.wdf_scene.specs.declared.line.StatementHead.{StatementHead}
 use Rattle.wdf_scene.specs.declared.line.StatementHead.TheVariants as head
 use Rattle.wdf_scene.specs.declared.scene.Scene.{Scene}
-use Rattle.wdf_scene.specs.Written.{Argument, Atom, Calling, Context, Leaf, Literal, Missing, Named, Node, Number, OfClass, Picked, Plain, Single, Tree, Valued, Written, WrittenLine, argument_nodes, atom_node, exprs_at, head_line, line_at, lines_at, nodes, nodes_at, root, size, written_size}
+use Rattle.wdf_scene.specs.Written.{Argument, Atom, Calling, Leaf, Missing, Node, Number, OfClass, Picked, Plain, Single, Tree, Valued, Written, WrittenLine, argument_nodes, atom_node, exprs_at, head_line, line_at, lines_at, nodes, nodes_at, root, size, written_size}
 use Rattle.wdf_tokens.specs.declared.lexer.TokenFault.{TokenFault}
 use Rattle.wdf_tokens.specs.declared.token.Token.{Token}
 use Rattle.wdf_tokens.specs.declared.token.Token.TheVariants as token

@@ -1,15 +1,13 @@
 -- What a run writes is accepted after its scenario.
-use Rattle.std.proofs.Common.{◌≡◌, ℕ, List, refl, sym, ap, ◌∙◌, subst}
+use Rattle.std.proofs.Common.{ℕ, List, refl, subst}
 use Rattle.wdf_base.specs.declared.plan.Plan.{Plan}
 use Rattle.wdf_model.specs.rules.Ready.{ending_of}
 use Rattle.wdf_dev.specs.Agents.{agent_meaning}
 use Rattle.wdf_run_text.specs.Texts.{text_of}
-use Rattle.wdf_replay.specs.declared.verdict.Verdict.{Verdict}
 use Rattle.wdf_replay.specs.Verdicts.{GivesVerdict}
-use Rattle.wdf_split.specs.Inputs.{trace_in}
-use Rattle.law_text.specs.Marks.{EndsInFeed, IsParted, put_together}
+use Rattle.law_text.specs.Marks.{EndsInFeed, IsParted}
 use Rattle.law_text.proofs.Parted.{parted_scene}
-use Rattle.law_replay.specs.Claims.{IsAcceptedAgain, IsEndedRun, IsPlanOf}
+use Rattle.law_replay.specs.Claims.{IsAcceptedAgain, IsPlanOf}
 use Rattle.law_replay.proofs.Exactly.{accepts_texts_of_plan}
 
 pub accepted_again : (scenario : List ℕ) (plan : Plan) → IsPlanOf scenario plan → EndsInFeed scenario → IsAcceptedAgain scenario plan agent_meaning

@@ -1,9 +1,8 @@
 -- A stack comes up from the bottom and goes down from the top, at each place of a run.
-use Rattle.std.proofs.Common.{if◌then◌else◌, ◌≡◌, ℕ, zero, suc, ◌+◌, ◌==◌, nat_le, ◌≤◌, Bool, true, false, not, ◌&&◌, ◌||◌, List, [], ◌∷◌, ◌++◌, length, take, Option, Some, None, is_some, option_map, unwrap_or, slice_get, refl, sym, ap, subst, ◌∙◌, arith, rules}
+use Rattle.std.proofs.Common.{if◌then◌else◌, ◌≡◌, ℕ, zero, suc, ◌+◌, ◌==◌, nat_le, Bool, true, false, not, ◌&&◌, ◌||◌, List, [], ◌∷◌, ◌++◌, length, take, Option, Some, None, is_some, option_map, unwrap_or, slice_get, refl, sym, ap, subst, ◌∙◌, arith, rules}
 use Rattle.std.specs.Bool.{Decides}
 use Rattle.std.proofs.lemmas.Bool.{eqb-true}
 use Rattle.std.proofs.lemmas.List.{length-map}
-use Rattle.std.proofs.lemmas.Option.{slice_get_past}
 use Rattle.wdf_base.specs.Meaning.{Meaning}
 use Rattle.wdf_base.specs.Resolved.{IsResolved, is_handle, is_ticks, pnp_post}
 use Rattle.wdf_base.specs.declared.plan.Plan.{Plan}
@@ -18,9 +17,9 @@ use Rattle.wdf_base.specs.declared.event.Post.{Post}
 use Rattle.wdf_base.specs.declared.event.Post.TheVariants as post
 use Rattle.wdf_base.specs.Same.{same_ask, same_handle, same_option, same_post}
 use Rattle.wdf_model.specs.declared.stack.AskPost.{AskPost}
-use Rattle.wdf_model.specs.Plans.{as_device, device_of, devices_of}
+use Rattle.wdf_model.specs.Plans.{device_of, devices_of}
 use Rattle.wdf_model.specs.parts.Pnp as pnp
-use Rattle.wdf_model.specs.parts.Pnp.{Pnp, busy, no_sequence, opening_phase, opening_pnp, opening_sequence, sequence_of}
+use Rattle.wdf_model.specs.parts.Pnp.{Pnp, busy, opening_phase, opening_pnp, opening_sequence, sequence_of}
 use Rattle.wdf_model.specs.State.{State}
 use Rattle.wdf_model.specs.rules.Posts.{due_of, post_answer, post_fits}
 use Rattle.wdf_model.specs.rules.Ready.{IsRunOf, state_after}
@@ -33,7 +32,6 @@ use Rattle.wdf_model.proofs.Sames.{handle_same}
 use Rattle.wdf_model.proofs.Tests.{both_left, both_right}
 use Rattle.law_machine_base.proofs.Follows.{state_goes_on}
 use Rattle.law_machine_lives.proofs.Keeping.{comes}
-use Rattle.law_trace_power.proofs.Runs.{mapped}
 use Rattle.law_trace_turns.specs.Turned.{Asked, Begun, Ended, Passed, Still, Turned}
 use Rattle.law_trace_turns.proofs.Places.{turned_at}
 use Rattle.law_stack.specs.Agents.{IsStackMeaning}
@@ -51,6 +49,7 @@ use Rattle.law_stack.proofs.Requests.{posted_is_due}
 use Rattle.law_stack.proofs.Rising.{rises}
 use Rattle.law_stack.proofs.Sequences.{last_only}
 use Rattle.law_stack.proofs.Turning.{IsInOrder, last_turns, phase_of, phase_turns}
+use Rattle.law_machine_room.proofs.NamesOfSteps.{opening_read}
 
 -- ---- what holds at each place
 
@@ -67,15 +66,6 @@ LedBy plan es Q (stack.StackManager m) = Leads plan es Q m
 LedBy plan es Q _ = ⊥
 
 -- ---- the opening
-
-no_device_past : (plan : Plan) (d : ℕ) → suc (length plan.declared) ≤ d → device_of plan d ≡ None
-no_device_past plan zero h = absurd (omega (arith, h))
-no_device_past plan (suc d) h = ap as_device (slice_get_past plan.declared d (omega (arith, h)))
-
-opening_sequences : (plan : Plan) (d : ℕ) → sequence_of (opening_pnp plan) d ≡ opening_sequence plan d (device_of plan d)
-opening_sequences plan d =
-    let e : 0 + d ≡ d = omega arith in
-    rw e at (mapped no_sequence (λ x. opening_sequence plan x (device_of plan x)) 0 (suc (length plan.declared)) d (λ x h. ap (opening_sequence plan x) (no_device_past plan x (omega (arith, h)))))
 
 phase_opens : (plan : Plan) (d : ℕ) (o : Option DeviceInfo) → is_working (opening_sequence plan d o).phase ≡ works_at_opening o
 phase_opens plan d None = refl
@@ -96,13 +86,13 @@ free_opens plan d (Some i) = refl
 leads_opens : (plan : Plan) → Leads plan [] (opening_pnp plan) (stack_manager_at plan)
 leads_opens plan = record {
   knows = knows_opens plan (phase_of (opening_pnp plan))
-      (λ d there. ap (λ q. q.phase) (opening_sequences plan d) ∙ same_opening plan d (device_of plan d) (is_device plan d there))
-      (λ d. ap (λ q. is_working q.phase) (opening_sequences plan d) ∙ phase_opens plan d (device_of plan d));
+      (λ d there. ap (λ q. q.phase) (opening_read plan d) ∙ same_opening plan d (device_of plan d) (is_device plan d there))
+      (λ d. ap (λ q. is_working q.phase) (opening_read plan d) ∙ phase_opens plan d (device_of plan d));
   many = length-map (devices_of plan) (stack_device plan);
   lines = refl;
-  last = λ d. ap (λ q. last_only q.left) (opening_sequences plan d) ∙ in_order_opens plan d (device_of plan d);
+  last = λ d. ap (λ q. last_only q.left) (opening_read plan d) ∙ in_order_opens plan d (device_of plan d);
   stands = record {
-    free = λ d. ap (λ q. is_some q.running || not (length q.left == 0)) (opening_sequences plan d) ∙ free_opens plan d (device_of plan d);
+    free = λ d. ap (λ q. is_some q.running || not (length q.left == 0)) (opening_read plan d) ∙ free_opens plan d (device_of plan d);
     next = λ x h. absurd (let z : ⊥ = cc in z);
   };
 }

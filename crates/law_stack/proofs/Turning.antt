@@ -22,6 +22,7 @@ use Rattle.law_stuck_named.proofs.Lasting.{passed_left}
 use Rattle.law_stack.proofs.Chains.{phase_after}
 use Rattle.law_stack.proofs.Knowing.{phases_after}
 use Rattle.law_stack.proofs.Sequences.{last_asked, last_dropped, last_end, last_only, last_tail}
+use Rattle.law_machine_counts.proofs.StepMoves.{passed_running}
 
 -- ---- one device changes, and no other
 
@@ -120,12 +121,6 @@ phase_turns S U e (Asked agent a n answer is free same) k =
     ap (λ Q. phase_of Q k) same ∙ one_phase S.pnp n.id.0 k (λ q. record q { left = steps_for q.steps q.ever_working q.phase a }) refl ∙ sym (ap (λ x. phases_after x (phase_of S.pnp) k) is)
 
 -- ---- only the last step that is left is such a stage
-
-pub passed_running : (s : Stage) (q : Sequence) → (passed s q).running ≡ q.running
-passed_running stage.Working q = refl
-passed_running stage.Sleeping q = refl
-passed_running stage.Removed q = refl
-passed_running _ q = refl
 
 -- what is left after a stage
 pub left_passed : (q : Sequence) (s : Stage) (j : Option Handle) (ss : List Step) → q.left ≡ step.Pass s j ∷ ss → (taken_step q).left ≡ ss

@@ -1,5 +1,5 @@
 -- What each target has and isn't done with: the deeds that change it.
-use Rattle.std.proofs.Common.{◌≡◌, ◌≢◌, ℕ, suc, ◌==◌, ◌≤◌, Bool, true, false, not, ◌&&◌, List, [], ◌∷◌, ◌⊎◌, inl, inr, filter, map, count_by, refl, sym, ap, subst, ◌∙◌, arith}
+use Rattle.std.proofs.Common.{◌≡◌, ◌≢◌, ℕ, suc, ◌==◌, ◌≤◌, Bool, true, false, ◌&&◌, List, [], ◌∷◌, ◌⊎◌, inl, inr, map, count_by, refl, sym, ap, subst, ◌∙◌, arith}
 use Rattle.std.specs.List.{list_all}
 use Rattle.std.proofs.lemmas.Bool.{and_left}
 use Rattle.wdf_base.specs.declared.plan.Plan.{Plan}
@@ -14,9 +14,10 @@ use Rattle.wdf_model.specs.declared.deed.Deed.TheVariants.{ComeBack, FinishSendi
 use Rattle.wdf_model.specs.rules.Deeds.{do_deed, do_deeds}
 use Rattle.wdf_model.proofs.Tests.{both_left, both_right}
 use Rattle.wdf_model.proofs.Maps.{entry_map}
-use Rattle.wdf_model.proofs.Counts.{by_request, differs, equal, left_over, one_is_sent, one_or_two, others_left, others_stay_sent}
+use Rattle.wdf_model.proofs.Counts.{by_request, differs, equal, one_is_sent, one_or_two, others_left, others_stay_sent}
 use Rattle.law_machine_base.proofs.KeptMoves.{target_elsewhere, target_here}
 use Rattle.law_stuck_objects.proofs.Sendings.{targets_stay}
+use Rattle.law_machine_base.proofs.KeptTargets.{back_at, left_at}
 
 -- ---- counts
 
@@ -54,9 +55,6 @@ sent_keeps_by T t r u x forget (inr other) =
 
 -- ---- the target is done with one, and one comes back
 
-done_at : (T : Targets) (r : ℕ) (status : Status) (u : ℕ) → (the_target (targets.done T r status) u).sent ≡ left_over r status (the_target T u).sent
-done_at T r status u = ap (λ (y : Target). y.sent) (entry_map no_target T.targets (target_done r status) u refl)
-
 other_outcome : (r x : ℕ) (status : Status) → x ≢ r → (s : Sending) (b : Bool) → (s.request.0 == r) ≡ b → waits_at x (done_sending r status s) ≡ waits_at x s
 other_outcome r x status n s true e =
     let off : (s.request.0 == x) ≡ false = differs s.request.0 r x e (λ f. n (sym f)) in
@@ -66,12 +64,9 @@ other_outcome r x status n s false e = rw e refl
 
 pub done_others : (T : Targets) (r x u : ℕ) (status : Status) → x ≢ r → undone (targets.done T r status) u x ≡ undone T u x
 done_others T r x u status n =
-    ap (count_by (waits_at x)) (done_at T r status u)
+    ap (count_by (waits_at x)) (left_at T r status u)
     ∙ others_left (waits_at x) r status (the_target T u).sent (λ s. other_outcome r x status n s (s.request.0 == r) refl)
     (λ s e. and_left (s.request.0 == x) (is_at_target s.outcome) (differs s.request.0 r x e (λ f. n (sym f))))
-
-back_at : (T : Targets) (r u : ℕ) → (the_target (targets.back T r) u).sent ≡ filter (λ s. not (s.request.0 == r)) (the_target T u).sent
-back_at T r u = ap (λ (y : Target). y.sent) (entry_map no_target T.targets (without_sending r) u refl)
 
 pub back_others : (T : Targets) (r x u : ℕ) → x ≢ r → undone (targets.back T r) u x ≡ undone T u x
 back_others T r x u n =

@@ -1,5 +1,5 @@
 -- A frame on a processor, or parked in a call, always has a cause; the top one waits in a call.
-use Rattle.std.proofs.Common.{◌≡◌, inl, ℕ, zero, suc, ◌+◌, ◌==◌, ◌<◌, Bool, true, false, not, ◌||◌, List, [], ◌∷◌, ◌++◌, Option, Some, None, is_some, filter, length, refl, sym, ap, ◌∙◌, arith, rules, take_while, nat_lt, inr, option_map}
+use Rattle.std.proofs.Common.{◌≡◌, inl, ℕ, zero, suc, ◌+◌, ◌==◌, ◌<◌, Bool, true, false, not, ◌||◌, List, [], ◌∷◌, ◌++◌, Option, Some, None, is_some, filter, length, refl, sym, ap, ◌∙◌, arith, take_while, nat_lt, inr, option_map}
 use Rattle.std.specs.List.{flat_map, list_any, range_with_len, list_all}
 use Rattle.std.proofs.lemmas.Bool.Decides.{nat_tests}
 use Rattle.std.proofs.lemmas.Bool.{or_cases}

@@ -44,7 +44,7 @@ use Rattle.wdf_model.specs.rules.Steps.{answered, by_top, deeds, did_deeds, goes
 use Rattle.wdf_model.specs.rules.Posts.{post_deeds}
 use Rattle.wdf_model.proofs.Tests.{both, both_left, both_right, either_false, itself}
 use Rattle.wdf_model.proofs.Maps.{entry_put_other, entry_put_same}
-use Rattle.wdf_model.proofs.Counts.{equal, not_equal, one_or_two}
+use Rattle.wdf_model.proofs.Counts.{not_equal, one_or_two}
 use Rattle.law_machine_base.proofs.Fits.{first_kind, wrong_kind_of_first}
 use Rattle.law_machine_base.proofs.FitsOfCalls.{Clean}
 use Rattle.law_machine_base.proofs.FitsOfEvents.{by_its_top}

@@ -1,5 +1,5 @@
 -- In a stuck run each processor that has a frame spins.
-use Rattle.std.proofs.Common.{◌≡◌, ℕ, ◌==◌, ◌<◌, nat_le, Bool, true, false, List, [], ◌∷◌, inl, inr, Option, Some, None, option_map, refl, sym, ap, subst, arith, ◌∙◌}
+use Rattle.std.proofs.Common.{◌≡◌, ℕ, ◌==◌, ◌<◌, nat_le, Bool, true, false, List, [], ◌∷◌, inl, inr, Option, Some, None, option_map, refl, ap, arith, ◌∙◌}
 use Rattle.std.proofs.lemmas.Bool.{cases_Bool}
 use Rattle.std.proofs.lemmas.Bool.Decides.{nat_tests}
 use Rattle.wdf_base.specs.Meaning.{Meaning}
@@ -16,7 +16,7 @@ use Rattle.wdf_model.specs.rules.Steps.{may, waits_on}
 use Rattle.wdf_base.specs.declared.frame.Pending.{Pending}
 use Rattle.wdf_model.specs.rules.Calls.{is_met}
 use Rattle.wdf_model.proofs.Counts.{equal}
-use Rattle.wdf_model.proofs.Tests.{all_three, itself, not_true}
+use Rattle.wdf_model.proofs.Tests.{all_three, not_true}
 use Rattle.law_stuck_causes.specs.Causes.{is_taken}
 use Rattle.law_stuck_causes.proofs.Members.{Has}
 use Rattle.law_stuck_causes.proofs.Endings.{AtRest, at_rest, may_not}

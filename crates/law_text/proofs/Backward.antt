@@ -1,10 +1,9 @@
 -- The reading says the first refusal that a text has.
-use Rattle.std.proofs.Common.{◌≡◌, ◌⊎◌, inl, inr, ℕ, suc, ◌+◌, ◌<◌, ◌==◌, Bool, true, false, cond, ◌&&◌, List, [], ◌∷◌, ◌++◌, length, Option, Some, None, Result, Ok, Err, IsTrue, refl, ap, sym, subst, ◌∙◌, arith}
+use Rattle.std.proofs.Common.{◌≡◌, inl, inr, ℕ, suc, ◌+◌, ◌<◌, ◌==◌, Bool, true, false, cond, ◌&&◌, List, [], ◌∷◌, length, Option, Some, None, Ok, Err, IsTrue, refl, ap, sym, ◌∙◌, arith}
 use Rattle.std.proofs.lemmas.Bool.{eqb-true}
 use Rattle.std.specs.List.{list_all}
-use Rattle.wdf_scene.specs.declared.scene.Scene.{Scene}
 use Rattle.wdf_scene.specs.Blocks.{may_stand}
-use Rattle.wdf_scene.specs.Written.{Written, is_written, line_at}
+use Rattle.wdf_scene.specs.Written.{Written, line_at}
 use Rattle.wdf_tokens.specs.declared.keyword.Keyword.{Keyword}
 use Rattle.wdf_tokens.specs.declared.keyword.Keyword.TheVariants as keyword
 use Rattle.wdf_tokens.specs.declared.lexer.TokenFault.{TokenFault}
@@ -18,15 +17,14 @@ use Rattle.wdf_tokens.proofs.KeywordLaws.{keyword_only}
 use Rattle.wdf_tokens.proofs.LexedTokens.{read_fit}
 use Rattle.wdf_scene_lines.specs.Building.{next_node}
 use Rattle.wdf_scene_lines.specs.Reading.{read_written}
-use Rattle.wdf_scene_lines.specs.Spelling.{written_tokens}
-use Rattle.wdf_scene_lines.proofs.LineSoundness.{SpellsLine, read_spelled}
+use Rattle.wdf_scene_lines.proofs.LineSoundness.{read_spelled}
 use Rattle.wdf_parse.specs.declared.reader.Reader.{Reader}
 use Rattle.wdf_parse.specs.declared.refusal.ParseRefusal.{ParseRefusal}
 use Rattle.wdf_parse.specs.declared.refusal.ParseRefusal.TheVariants as refusal
 use Rattle.wdf_parse.specs.Standing.{first_number}
 use Rattle.wdf_parse.specs.StandsFor.{version_tokens}
 use Rattle.wdf_parse.specs.Texts.{opening, with_written, line_taken, version_mark, is_version, is_at_front, tokens_taken, or_bad_line, refused, after_tokens, after_line, after_lines, closed, at_end, finished, reading}
-use Rattle.law_text.specs.FirstRefusal.{AreRead, HasLine, HasForeignByte, HasBadPiece, HasBadLine, EndsEarly, EndsInside, IsFirstRefusal}
+use Rattle.law_text.specs.FirstRefusal.{AreRead, HasLine, HasBadLine, IsFirstRefusal}
 use Rattle.law_text.proofs.Columns.{stuck_back}
 use Rattle.law_text.proofs.Readers.{after_append, stands_same, IsReader, read_lines}
 

@@ -10,7 +10,7 @@ use Rattle.wdf_text.specs.Decimals.{small_number}
 use Rattle.wdf_tokens.specs.declared.lexer.TokenFault.{TokenFault}
 use Rattle.wdf_tokens.specs.declared.lexer.TokenFault.TheVariants as fault
 use Rattle.wdf_tokens.specs.declared.token.Token.{Token}
-use Rattle.wdf_tokens.specs.Tokens.{is_blank, is_name_byte, piece_of, digits_piece, letters_piece, number_content, name_content, long_name, long_content, pair_token, mark_token, marks_piece, token_at, with_token, tokens_from}
+use Rattle.wdf_tokens.specs.Tokens.{is_blank, is_name_byte, piece_of, number_content, name_content, long_name, long_content, pair_token, mark_token, marks_piece, token_at, with_token, tokens_from}
 use Rattle.wdf_tokens.proofs.LineReading.{tokens_from_skip}
 use Rattle.law_text.specs.FirstRefusal.{IsFine, Reaches, IsStuck}
 use Rattle.law_text.proofs.Pieces.{picked}

@@ -1,25 +1,22 @@
 -- A text that isn't read has the refusal that the reading says.
-use Rattle.std.proofs.Common.{◌≡◌, ◌⊎◌, inl, inr, ℕ, suc, ◌+◌, ◌<◌, ◌==◌, Bool, true, false, cond, ◌&&◌, List, [], ◌∷◌, ◌++◌, length, Option, Some, None, Result, Ok, Err, IsTrue, refl, ap, sym, subst, ◌∙◌, arith}
+use Rattle.std.proofs.Common.{◌≡◌, inl, inr, ℕ, suc, ◌+◌, ◌<◌, ◌==◌, Bool, true, false, cond, ◌&&◌, List, [], ◌∷◌, ◌++◌, length, Option, Some, None, Result, Ok, Err, IsTrue, refl, ap, sym, subst, ◌∙◌, arith}
 use Rattle.std.specs.List.{list_all}
-use Rattle.wdf_scene.specs.declared.scene.Scene.{Scene}
 use Rattle.wdf_scene.specs.Blocks.{may_stand}
-use Rattle.wdf_scene.specs.Written.{Written, is_written, line_at}
+use Rattle.wdf_scene.specs.Written.{line_at}
 use Rattle.wdf_tokens.specs.declared.lexer.TokenFault.{TokenFault}
 use Rattle.wdf_tokens.specs.declared.lexer.TokenFault.TheVariants as fault
 use Rattle.wdf_tokens.specs.declared.token.Token.{Token}
 use Rattle.wdf_tokens.specs.Tokens.{is_plain, tokens_from, line_reading, lines_of}
 use Rattle.wdf_scene_lines.specs.Building.{next_node}
 use Rattle.wdf_scene_lines.specs.Reading.{read_written}
-use Rattle.wdf_scene_lines.specs.Spelling.{written_tokens}
 use Rattle.wdf_scene_lines.proofs.Completeness.{written_read}
 use Rattle.wdf_parse.specs.declared.reader.Reader.{Reader}
 use Rattle.wdf_parse.specs.declared.refusal.ParseRefusal.{ParseRefusal}
 use Rattle.wdf_parse.specs.declared.refusal.ParseRefusal.TheVariants as refusal
 use Rattle.wdf_parse.specs.Standing.{first_number}
-use Rattle.wdf_parse.specs.StandsFor.{version_tokens}
-use Rattle.wdf_parse.specs.Texts.{opening, with_written, line_taken, is_version, is_at_front, tokens_taken, or_bad_line, refused, after_tokens, after_line, after_lines, closed, at_end, finished, reading}
+use Rattle.wdf_parse.specs.Texts.{opening, with_written, line_taken, is_version, is_at_front, tokens_taken, or_bad_line, refused, after_tokens, after_line, after_lines, closed, finished, reading}
 use Rattle.wdf_parse.proofs.ReadBack.{version_is}
-use Rattle.law_text.specs.FirstRefusal.{AreRead, HasLine, HasForeignByte, HasBadPiece, HasBadLine, EndsEarly, EndsInside, IsFirstRefusal}
+use Rattle.law_text.specs.FirstRefusal.{HasLine, HasBadLine, IsFirstRefusal}
 use Rattle.law_text.proofs.Columns.{foreign_there, large_there, plain_there}
 use Rattle.law_text.proofs.Readers.{stands_same, IsReader, TakenLines, taken_lines}
 

@@ -1,12 +1,12 @@
 -- A scenario and a trace, with the line `trace` between them, are taken apart again.
-use Rattle.std.proofs.Common.{if◌then◌else◌, ◌≡◌, inl, inr, ℕ, suc, ◌==◌, Bool, true, false, cond, not, ◌&&◌, List, [], ◌∷◌, ◌++◌, map, Option, Some, None, option_map, Result, Ok, Err, refl, ap, sym, ◌∙◌, subst, append-nil, append_assoc, codes}
+use Rattle.std.proofs.Common.{◌≡◌, inl, inr, ℕ, suc, ◌==◌, Bool, true, false, cond, not, ◌&&◌, List, [], ◌∷◌, ◌++◌, map, Option, Some, None, option_map, Result, Ok, Err, refl, ap, sym, ◌∙◌, subst, codes}
 use Rattle.std.specs.Prelude.{⊤}
 use Rattle.std.specs.List.{list_all, take_while}
 use Rattle.std.proofs.lemmas.Bool.{and_from, and_parts, cases_Bool, not-true}
 use Rattle.std.proofs.lemmas.List.Sums.{take_while-cons}
 use Rattle.std.proofs.lemmas.Option.{same_Some}
 use Rattle.wdf_scene.specs.declared.scene.Scene.{Scene}
-use Rattle.wdf_scene.specs.Written.{Written, WrittenLine, is_written}
+use Rattle.wdf_scene.specs.Written.{WrittenLine, is_written}
 use Rattle.wdf_tokens.specs.declared.lexer.TokenFault.{TokenFault}
 use Rattle.wdf_tokens.specs.declared.token.Token.{Token}
 use Rattle.wdf_tokens.specs.declared.token.Token.TheVariants as token
@@ -14,7 +14,6 @@ use Rattle.wdf_tokens.specs.Keywords.{keyword_of}
 use Rattle.wdf_tokens.specs.Tokens as tokens
 use Rattle.wdf_tokens.specs.Tokens.{line_reading, lines_of}
 use Rattle.wdf_scene_lines.specs.Reading.{read_written}
-use Rattle.wdf_scene_lines.specs.Spelling.{written_tokens}
 use Rattle.wdf_scene_lines.proofs.Completeness.{written_read}
 use Rattle.wdf_parse.specs.StandsFor.{StandsFor, TokenLine, spelled_line, token_lines, version_lines, with_token_line}
 use Rattle.wdf_run_text.specs.Lines.{joined_lines, trace_lines, with_byte}

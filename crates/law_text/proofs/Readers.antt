@@ -1,21 +1,17 @@
 -- Lines that are read, as the reading of a text takes them.
-use Rattle.std.proofs.Common.{◌≡◌, ◌⊎◌, ℕ, suc, ◌+◌, Bool, true, false, cond, ◌&&◌, List, [], ◌∷◌, ◌++◌, map, length, Option, Some, None, Result, Ok, Err, IsTrue, refl, ap, sym, subst, ◌∙◌, arith}
-use Rattle.std.specs.List.{list_all}
-use Rattle.wdf_scene.specs.declared.line.NumberedLine.{NumberedLine}
-use Rattle.wdf_scene.specs.declared.line.SceneLine.{SceneLine}
+use Rattle.std.proofs.Common.{◌≡◌, ℕ, suc, ◌+◌, Bool, true, false, cond, List, [], ◌∷◌, ◌++◌, length, Some, None, Result, Ok, Err, refl, ap, sym, ◌∙◌, arith}
 use Rattle.wdf_scene.specs.declared.line.StatementHead.{StatementHead}
 use Rattle.wdf_scene.specs.declared.line.StatementHead.TheVariants as head
-use Rattle.wdf_scene.specs.Blocks.{Position, front, may_stand, openers_after}
+use Rattle.wdf_scene.specs.Blocks.{Position, may_stand, openers_after}
 use Rattle.wdf_scene.specs.Blocks as blocks
-use Rattle.wdf_scene.specs.Written.{Written, Plain, Picked, Single, Calling, WrittenLine, is_written, line_at, lines_at, head_line, written_size}
+use Rattle.wdf_scene.specs.Written.{Written, Single, WrittenLine, line_at, lines_at, head_line, written_size}
 use Rattle.wdf_scene_lines.specs.Building.{next_node}
 use Rattle.wdf_parse.specs.declared.reader.Reader.{Reader}
 use Rattle.wdf_parse.specs.declared.refusal.ParseRefusal.{ParseRefusal}
-use Rattle.wdf_parse.specs.StandsFor.{token_lines, spelled_line, version_lines}
-use Rattle.wdf_parse.specs.Texts.{opening, with_written, line_taken, after_line, after_lines}
-use Rattle.wdf_parse.proofs.Built.{Adds, adds, all_written}
+use Rattle.wdf_parse.specs.Texts.{opening, with_written, after_line, after_lines}
+use Rattle.wdf_parse.proofs.Built.{adds, all_written}
 use Rattle.wdf_parse.proofs.Forward.{forward_front}
-use Rattle.wdf_parse.proofs.History.{FrontHistory, front_history, taken_by}
+use Rattle.wdf_parse.proofs.History.{front_history, taken_by}
 use Rattle.law_text.specs.FirstRefusal.{openers_from, AreRead, open_lines}
 
 -- ---- lines in turn

@@ -1,5 +1,5 @@
 -- What is said of the mark between a scenario and a trace. (own)
-use Rattle.std.specs.Prelude.{◌≡◌, ℕ, Bool, true, not, List, ◌++◌, codes}
+use Rattle.std.specs.Prelude.{◌≡◌, ℕ, Bool, not, List, ◌++◌, codes}
 use Rattle.std.specs.List.{list_all}
 use Rattle.wdf_run_text.specs.Lines.{trace_lines}
 use Rattle.wdf_split.specs.Inputs.{is_mark, scenario_in, trace_in}

@@ -11,7 +11,7 @@ use Rattle.wdf_model.specs.Tables.{contains, entry, first_of_list, flag}
 use Rattle.wdf_model.specs.declared.deed.Deed.{Deed}
 use Rattle.wdf_model.specs.declared.entries.HeldLevel.{HeldLevel}
 use Rattle.wdf_model.specs.parts.Cpus as cpus
-use Rattle.wdf_model.specs.parts.Cpus.{Cpus, levels_without, no_frame, running, stack_of, top, without_frame}
+use Rattle.wdf_model.specs.parts.Cpus.{Cpus, levels_without, no_frame, stack_of, top, without_frame}
 use Rattle.wdf_model.specs.rules.Deeds.{counted, do_deed, do_deeds}
 use Rattle.wdf_model.proofs.Counts.{count_behind, equal, not_equal}
 use Rattle.wdf_model.proofs.FrameCounts.{contained, on}

@@ -8,7 +8,7 @@ use Rattle.wdf_model.specs.declared.entries.Running.{Running}
 use Rattle.wdf_model.specs.State.{State, waits_for}
 use Rattle.wdf_model.specs.Tables.{contains, entry, first_of_list}
 use Rattle.wdf_model.specs.parts.Cpus as cpus
-use Rattle.wdf_model.specs.parts.Cpus.{Cpus, all_frames, frame_level, frame_of, is_running, level_of_top, levels_of, no_frame, nobody_on, running, stack_of, top}
+use Rattle.wdf_model.specs.parts.Cpus.{Cpus, all_frames, frame_of, is_running, level_of_top, levels_of, no_frame, nobody_on, running, stack_of, top}
 use Rattle.wdf_model.proofs.Counts.{count_no, count_yes, one_or_two}
 use Rattle.wdf_model.proofs.Maps.{entry_put_other, entry_put_same}
 use Rattle.law_touched.specs.Touched.{Processor, TopFrame, TopWait, RunningObjects, WaitedObjects, ParkedFrames}

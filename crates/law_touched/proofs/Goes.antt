@@ -11,7 +11,7 @@ use Rattle.wdf_model.specs.Tables.{entry}
 use Rattle.wdf_model.specs.declared.deed.Deed.{Deed}
 use Rattle.wdf_model.specs.declared.deed.Deed.TheVariants.{GoOn}
 use Rattle.wdf_model.specs.parts.Cpus as cpus
-use Rattle.wdf_model.specs.parts.Cpus.{Cpus, frame_of, levels_of, no_frame, running, top}
+use Rattle.wdf_model.specs.parts.Cpus.{Cpus, frame_of, no_frame}
 use Rattle.wdf_model.specs.rules.Deeds.{counted, do_deeds}
 use Rattle.wdf_model.proofs.Counts.{equal, one_or_two}
 use Rattle.law_machine_counts.proofs.FrameMoves.{FrameKept}

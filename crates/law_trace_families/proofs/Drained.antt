@@ -69,7 +69,7 @@ use Rattle.law_trace_families.proofs.Undone.{completed_one, deeds_finish, finish
 -- ---- what is finished was completed
 
 -- an argument that is no wrong kind of the sort of a request names its object
-names : (v : View) (a : Arg) → is_wrong_kind v (sort.ObjectOf kind.Request) a ≡ false → argument_object a ≡ Some (object_in a)
+pub names : (v : View) (a : Arg) → is_wrong_kind v (sort.ObjectOf kind.Request) a ≡ false → argument_object a ≡ Some (object_in a)
 names v (Val (Obj h)) e = refl
 names v _ e = absurd (let z : ⊥ = cc in z)
 

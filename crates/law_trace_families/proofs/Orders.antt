@@ -203,11 +203,11 @@ closed_by plan m run k x (Some e) is_run at before some_ done =
           below_cleaned plan m run k x o.0 is_run (at ∙ ap Some o.1) (sym o.2) some_ done
     ]
 
-closed_at : {A : Type 0} (plan : Plan) (m : Meaning A) (run : List Event) → IsRunOf plan m run → (n : ℕ) → Closed plan run (take n run)
+pub closed_at : {A : Type 0} (plan : Plan) (m : Meaning A) (run : List Event) → IsRunOf plan m run → (n : ℕ) → Closed plan run (take n run)
 closed_at plan m run is_run zero x some_ done = absurd (let no_ = never_yet (sign.Cleaned (law.parent_of plan run x)) in let z : ⊥ = cc in z)
 closed_at plan m run is_run (suc k) x some_ done = closed_by plan m run k x (slice_get run k) is_run refl (closed_at plan m run is_run k) some_ done
 
-none_above : (plan : Plan) (all before : List Event) → Closed plan all before → (n o : ℕ) → ever (sign.Cleaned o) before ≡ false → cleaned_above plan all before n o ≡ false
+pub none_above : (plan : Plan) (all before : List Event) → Closed plan all before → (n o : ℕ) → ever (sign.Cleaned o) before ≡ false → cleaned_above plan all before n o ≡ false
 none_above plan all before closed zero o h = refl
 none_above plan all before closed (suc n) o h =
     let p : ℕ = law.parent_of plan all o in

@@ -10,7 +10,7 @@ use Rattle.wdf_base.specs.declared.object.Kind.TheVariants as kind
 use Rattle.wdf_base.specs.declared.object.Life.TheVariants as life
 use Rattle.wdf_base.specs.Lives.{is_cleaned, is_live}
 use Rattle.wdf_model.specs.declared.entries.Node.{Node}
-use Rattle.wdf_model.specs.parts.Tree.{Tree, declared_node, gone, life_of, node_of, noted, subtree, with_life, with_node}
+use Rattle.wdf_model.specs.parts.Tree.{Tree, gone, life_of, node_of, noted, subtree, with_life, with_node}
 use Rattle.wdf_model.specs.parts.Tree as tree
 use Rattle.wdf_model.specs.parts.Requests as requests
 use Rattle.wdf_model.specs.State.{State}

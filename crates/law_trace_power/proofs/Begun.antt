@@ -15,9 +15,10 @@ use Rattle.wdf_model.specs.declared.enums.Phase.{Phase}
 use Rattle.wdf_model.specs.declared.enums.Phase.TheVariants.{Off, Working, Sleeping, Removed}
 use Rattle.wdf_model.specs.parts.Pnp.{DeviceSteps, Sequence, left_after_failure, steps_for}
 use Rattle.wdf_model.proofs.Tests.{both_left, both_right, not_true}
-use Rattle.law_trace_power.specs.Steps.{enabled_from, enabled_says, hardware_from, hardware_says, is_for, is_started, is_working, phase_after, queues_from, queues_say}
+use Rattle.law_trace_power.specs.Steps.{enabled_from, enabled_says, hardware_from, hardware_says, is_for, is_started, phase_after, queues_from, queues_say}
 use Rattle.law_trace_power.proofs.Standings.{Standing, Watch, begins, could_fail, fails, leads_on, leads_to, may_take, next, rests, rests_in, safe, safe_by, succeeds}
 use Rattle.law_trace_power.proofs.Lists.{Is, Suits, closes, downs, finishes, hards, loses, maybe_run, not_either, passing, releases, removed_rests, removes, same_test, sleeping_rests, softens, tails, ups, working_rests}
+use Rattle.wdf_model.specs.agents.StackManager.{is_working}
 
 module _ (w : Watch) where
   -- ---- where a device rests

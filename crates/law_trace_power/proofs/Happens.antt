@@ -6,7 +6,7 @@ use Rattle.wdf_base.specs.declared.ids.Cpu.{Cpu}
 use Rattle.wdf_base.specs.declared.ids.Handle.{Handle}
 use Rattle.wdf_base.specs.declared.plan.Plan.{Plan}
 use Rattle.wdf_base.specs.declared.value.Value.{Value}
-use Rattle.wdf_base.specs.declared.value.Value.TheVariants.{Num, Obj, Stat}
+use Rattle.wdf_base.specs.declared.value.Value.TheVariants.{Num}
 use Rattle.wdf_base.specs.declared.call.Callback.{Callback}
 use Rattle.wdf_base.specs.declared.call.Callback.TheVariants as callback
 use Rattle.wdf_base.specs.declared.event.Ask.{Ask}
@@ -21,7 +21,7 @@ use Rattle.wdf_model.specs.declared.entries.DevicePower.{DevicePower}
 use Rattle.wdf_model.specs.Tables.{entry, first_of_list}
 use Rattle.wdf_model.specs.Plans.{device_of, interrupt_of, is_interrupt_of}
 use Rattle.wdf_model.specs.parts.Power.{no_device_power}
-use Rattle.wdf_model.specs.parts.Pnp.{Pnp, Sequence, busy, is_running_step, left_after, next_step, no_sequence, passed, running_step, sequence_of, steps_for, steps_left, taken_step}
+use Rattle.wdf_model.specs.parts.Pnp.{Pnp, Sequence, busy, is_running_step, left_after, no_sequence, passed, running_step, sequence_of, steps_for, steps_left, taken_step}
 use Rattle.wdf_model.specs.parts.Pnp as pnp
 use Rattle.wdf_model.specs.parts.Interrupts.{Interrupts, is_enabled}
 use Rattle.wdf_model.proofs.Maps.{entry_put_other, entry_put_same}

@@ -1,5 +1,5 @@
 -- What holds of devices holds at each place of every run of a resolved plan.
-use Rattle.std.proofs.Common.{◌≡◌, ℕ, zero, suc, ◌+◌, ◌==◌, ◌≤◌, Bool, true, false, not, ◌&&◌, ◌||◌, List, [], ◌∷◌, ◌++◌, ◌⊎◌, inl, inr, Option, Some, None, is_some, length, map, slice_get, take, refl, sym, ap, subst, ◌∙◌, arith}
+use Rattle.std.proofs.Common.{◌≡◌, ℕ, zero, suc, ◌+◌, ◌==◌, ◌≤◌, Bool, true, false, not, ◌||◌, List, [], ◌∷◌, ◌++◌, ◌⊎◌, inl, inr, Option, Some, None, is_some, length, map, slice_get, take, refl, sym, ap, subst, ◌∙◌, arith}
 use Rattle.std.specs.List.{range_with_len}
 use Rattle.std.proofs.Math.Bool.{and-false}
 use Rattle.wdf_base.specs.Meaning.{Meaning}
@@ -53,7 +53,7 @@ beyond [] x h = refl
 beyond (d ∷ ds) zero h = absurd (omega arith)
 beyond (d ∷ ds) (suc x) h = beyond ds x (omega arith)
 
-no_device : (plan : Plan) (x : ℕ) → suc (length plan.declared) ≤ x → device_of plan x ≡ None
+pub no_device : (plan : Plan) (x : ℕ) → suc (length plan.declared) ≤ x → device_of plan x ≡ None
 no_device plan zero h = absurd (omega arith)
 no_device plan (suc x) h = ap as_device (beyond plan.declared x (omega arith))
 

@@ -13,10 +13,7 @@ use Rattle.wdf_model.specs.parts.Power.{has_hardware, queues_up}
 use Rattle.wdf_model.specs.parts.Pnp.{Pnp, sequence_of, steps_left}
 use Rattle.wdf_model.specs.parts.Interrupts.{is_enabled}
 use Rattle.wdf_model.specs.State.{State}
-
-abbrev pub is_working : Phase → Bool
-is_working Working = true
-is_working _ = false
+use Rattle.wdf_model.specs.agents.StackManager.{is_working}
 
 -- a device that works or sleeps has its hardware
 abbrev pub is_started : Phase → Bool

@@ -14,7 +14,7 @@ use Rattle.wdf_model.specs.declared.entries.Holding.{Holding}
 use Rattle.wdf_model.specs.Tables.{entry, first_of_list, put}
 use Rattle.wdf_model.specs.Plans.{device_of_queue}
 use Rattle.wdf_model.specs.parts.Power.{Power, advance_stage, any_resume_due, holding_of, no_device_power, no_holding, opening_power, with_up, woken}
-use Rattle.wdf_model.specs.parts.Pnp.{Pnp, Sequence, busy, ended, follows_queues_up, follows_up, is_running_step, left_after, next_step, no_sequence, running_step, sequence_of, steps_for, steps_left, taken, taken_step, with_sequence}
+use Rattle.wdf_model.specs.parts.Pnp.{Pnp, Sequence, ended, follows_queues_up, follows_up, left_after, no_sequence, running_step, sequence_of, steps_for, steps_left, taken, taken_step, with_sequence}
 use Rattle.wdf_model.specs.parts.Pnp as pnp
 use Rattle.wdf_model.proofs.Maps.{entry_map, entry_put_other, entry_put_same}
 use Rattle.wdf_model.proofs.Counts.{one_or_two}

@@ -53,7 +53,8 @@ use Rattle.law_machine_counts.proofs.StepStates.{fit_before, in_turn}
 use Rattle.law_machine_lives.proofs.FramesStay.{Begins, frames_by}
 use Rattle.law_machine_lives.proofs.Framing.{Framing, framing_by, lock_stays}
 use Rattle.law_machine_lives.proofs.Lists.{Each, each_behind, each_kept, each_still}
-use Rattle.law_machine_lives.proofs.LocksOnce.{Once, lock_itself, once_at_each}
+use Rattle.wdf_model.proofs.Sames.{lock_itself}
+use Rattle.law_machine_lives.proofs.LocksOnce.{Once, once_at_each}
 use Rattle.law_machine_lives.proofs.QuietDeeds.{all_quiet, is_quiet_deed, start_effect_none}
 use Rattle.law_machine_lives.proofs.Sound.{AllSound, Sound, lock_of_frame}
 use Rattle.law_machine_lives.proofs.SoundEvents.{Before, start_effect_sound}

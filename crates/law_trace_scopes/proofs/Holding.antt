@@ -20,7 +20,8 @@ use Rattle.wdf_model.proofs.Tests.{both_left, both_right, not_true}
 use Rattle.wdf_model.proofs.Counts.{count_behind, count_cons, filter_kept}
 use Rattle.law_machine_lives.proofs.FramesStay.{FramesGoOn, NoneEnds, frames_by}
 use Rattle.law_machine_lives.proofs.Framing.{Framing, framing_by, lock_stays, locks_by, object_of, off_it}
-use Rattle.law_machine_lives.proofs.LocksOnce.{Once, one_lock}
+use Rattle.wdf_model.proofs.Sames.{one_lock}
+use Rattle.law_machine_lives.proofs.LocksOnce.{Once}
 use Rattle.law_machine_lives.proofs.QuietMoves.{quiet_cpus}
 use Rattle.law_machine_lives.proofs.Sound.{AllSound, Sound, lock_of_frame}
 use Rattle.law_machine_lives.proofs.There.{StaysAt, deed_there}

@@ -37,7 +37,8 @@ use Rattle.wdf_model.proofs.Counts.{equal}
 use Rattle.law_machine_base.proofs.OwnEvents.{not_found}
 use Rattle.law_machine_lives.proofs.Framing.{Framing, framing_at_each}
 use Rattle.law_machine_lives.proofs.Lists.{Each, inside}
-use Rattle.law_machine_lives.proofs.LocksOnce.{free_unheld, one_lock}
+use Rattle.wdf_model.proofs.Sames.{one_lock}
+use Rattle.law_machine_lives.proofs.LocksOnce.{free_unheld}
 use Rattle.law_machine_lives.proofs.Sound.{lock_of_frame}
 use Rattle.wdf_laws.specs.declared.sign.Begun.{Begun}
 use Rattle.wdf_laws.specs.declared.sign.Told.{Told}

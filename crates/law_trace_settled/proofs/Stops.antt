@@ -24,7 +24,7 @@ use Rattle.wdf_model.specs.parts.Tree.{life_of, nearest_device}
 use Rattle.wdf_model.specs.parts.Cpus.{Cpus, frame_of, nobody_on}
 use Rattle.wdf_model.specs.parts.Locks.{is_free_if_any, lock_of_callback}
 use Rattle.wdf_model.specs.parts.Power.{stop_was_asked, unsettled}
-use Rattle.wdf_model.specs.parts.Pnp.{Pnp, Sequence, busy, is_running_step, left_after, next_step, no_sequence, sequence_of, steps_for, steps_left, taken_step}
+use Rattle.wdf_model.specs.parts.Pnp.{Pnp, Sequence, is_running_step, left_after, next_step, no_sequence, sequence_of, steps_for, steps_left, taken_step}
 use Rattle.wdf_model.specs.parts.Pnp as pnp
 use Rattle.wdf_model.specs.State.{State, declared_in, declares_in, is_held_from, is_proper}
 use Rattle.wdf_model.specs.rules.Starts.{is_ready_for, is_settled, level_fits, life_fits, may_pass, may_start, stage_ready, step_ready, stop_is_due}

@@ -1,5 +1,5 @@
 -- A plan that is resolved: one device with one queue, and an app with one read.
-use Rattle.std.proofs.Common.{◌≡◌, Some, None, [], ◌∷◌, true, false, codes, refl}
+use Rattle.std.proofs.Common.{None, [], ◌∷◌, true, false, codes, refl}
 use Rattle.wdf_base.specs.declared.declared.Declared.{Declared}
 use Rattle.wdf_base.specs.declared.declared.Declared.TheVariants as declared
 use Rattle.wdf_base.specs.declared.declared.Scope.TheVariants as scope

@@ -1,7 +1,6 @@
 -- Each word is read back, and nothing else is read so.
-use Rattle.std.proofs.Common.{◌≡◌, Bool, true, false, cond, find, Option, Some, None, List, [], ◌∷◌, ℕ, refl}
+use Rattle.std.proofs.Common.{◌≡◌, Bool, true, false, cond, find, Option, Some, List, [], ◌∷◌, ℕ, refl}
 use Rattle.std.proofs.lemmas.Slice.Eq.{bytes_eq-Decides}
-use Rattle.std.proofs.lemmas.Option.{cond_some}
 use Rattle.std.specs.Str.{bytes_eq}
 use Rattle.wdf_base.specs.declared.value.Status.{Status}
 use Rattle.wdf_base.specs.declared.value.Status.TheVariants as status

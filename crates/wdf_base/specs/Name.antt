@@ -1,8 +1,7 @@
 -- How a name lies in its 32 bytes.
 use Rattle.std.specs.Prelude.{◌≡◌, ℕ, ◌+◌, ◌-◌, ◌≤◌, List, ◌++◌, length, take, drop, replicate}
-use Rattle.std.proofs.Common.{arith, refl, sym, ◌∙◌, ap, append-nil}
-use Rattle.std.proofs.lemmas.List.{take-append-drop, length-take-le, drop-replicate}
-use Rattle.std.proofs.Math.Seq.{drop-append_seam}
+use Rattle.std.proofs.Common.{arith}
+use Rattle.std.proofs.lemmas.List.{take-append-drop, length-take-le}
 
 -- the first bytes are the name's, and zeros follow
 pub record IsPadded (bytes : List ℕ) (len : ℕ) : Type 0 where

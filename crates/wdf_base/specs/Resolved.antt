@@ -1,5 +1,5 @@
 -- What the crates above may rely on of a plan that was resolved from a scene: tests that compute.
-use Rattle.std.specs.Prelude.{◌≡◌, ℕ, zero, suc, ◌+◌, ◌-◌, Bool, true, false, not, ◌&&◌, ◌||◌, ◌==◌, nat_le, nat_lt, List, [], ◌∷◌, ◌++◌, length, map, drop, take, sum_by, count_by, Option, Some, None, is_some, option_map, option_and_then, slice_get, IsTrue, codes}
+use Rattle.std.specs.Prelude.{◌≡◌, ℕ, suc, ◌+◌, ◌-◌, Bool, true, false, not, ◌&&◌, ◌||◌, ◌==◌, nat_le, nat_lt, List, [], ◌∷◌, ◌++◌, length, map, drop, take, sum_by, count_by, Option, Some, None, is_some, option_map, option_and_then, slice_get, IsTrue, codes}
 use Rattle.std.specs.Char.{is_ascii_digit, is_ascii_alphabetic, is_ascii_alphanumeric}
 use Rattle.std.specs.List.{list_all, list_any, filter_map}
 use Rattle.std.specs.Str.{bytes_eq}
@@ -8,7 +8,6 @@ use Rattle.wdf_base.specs.declared.object.Kind.{Kind}
 use Rattle.wdf_base.specs.declared.object.Kind.TheVariants as kind
 use Rattle.wdf_base.specs.declared.event.Action.{Action}
 use Rattle.wdf_base.specs.declared.event.Action.TheVariants as action
-use Rattle.wdf_base.specs.declared.event.Post.{Post}
 use Rattle.wdf_base.specs.declared.event.Post.TheVariants as post
 use Rattle.wdf_base.specs.declared.call.Callback.{Callback}
 use Rattle.wdf_base.specs.declared.call.Callback.TheVariants as callback
@@ -44,7 +43,7 @@ use Rattle.wdf_base.specs.Calls.{signature_of}
 use Rattle.wdf_base.specs.Callbacks.{row_of}
 use Rattle.wdf_base.specs.Kinds.{declared_kind, declared_name, class_kind, class_name}
 use Rattle.wdf_base.specs.Plan.{declared_of, script_of}
-use Rattle.wdf_base.specs.Same.{same_option, same_kind, same_callback, same_object_id}
+use Rattle.wdf_base.specs.Same.{same_option, same_kind, same_callback}
 use Rattle.wdf_base.specs.SamePlan.{same_declared, same_execution_level}
 use Rattle.wdf_base.specs.Words.{status_word}
 

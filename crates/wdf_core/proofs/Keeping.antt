@@ -1,5 +1,5 @@
 -- The counts that an event leaves known stay right: it doesn't touch their groups.
-use Rattle.std.proofs.Common.{◌≤◌, ◌^◌, get_or, Bool, true, false, ◌≡◌, ◌||◌, ℕ, List, [], ◌∷◌, ◌++◌, length, slice_get, Some, refl, sym, ap, ◌∙◌, subst}
+use Rattle.std.proofs.Common.{false, ◌≡◌, ◌||◌, ℕ, List, [], ◌∷◌, ◌++◌, length, slice_get, Some, refl, sym, ap, ◌∙◌}
 use Rattle.std.specs.List.{list_any}
 use Rattle.wdf_base.specs.Meaning.{Meaning}
 use Rattle.wdf_base.specs.declared.plan.Plan.{Plan}
@@ -13,7 +13,7 @@ use Rattle.wdf_model.specs.State.{State}
 use Rattle.wdf_model.specs.rules.Ready.{ready, state_after}
 use Rattle.wdf_model.specs.rules.Steps.{after}
 use Rattle.law_machine_base.proofs.Follows.{state_goes_on}
-use Rattle.law_touched.specs.Touched.{AgentStates, TopFrame, has_piece, is_of_time, is_own_of, read_by, read_by_rank, read_for_rank, touches}
+use Rattle.law_touched.specs.Touched.{AgentStates, TopFrame, has_piece, is_of_time, is_own_of, read_by, touches}
 use Rattle.law_touched.proofs.Law.{local_touches, log_touches, tick_touches}
 use Rattle.law_touched.proofs.Runs.{untouched_in_run}
 use Rattle.wdf_ready.specs.Counts.{Counts, IsKept, Unknown, is_own, is_stale, is_timed, reads_agents, stale_after, stale_by}

@@ -8,7 +8,6 @@ use Rattle.wdf_base.specs.declared.event.Ending.{Ending}
 use Rattle.wdf_base.specs.declared.event.Ending.TheVariants as ending
 use Rattle.wdf_base.specs.declared.plan.Plan.{Plan}
 use Rattle.wdf_base.specs.declared.wait.WaitLine.{WaitLine}
-use Rattle.wdf_model.specs.State.{State}
 use Rattle.wdf_model.specs.rules.Ready.{ending_of, state_after}
 use Rattle.wdf_model.specs.rules.Waits.{if_stuck, wait_list}
 use Rattle.wdf_waits.specs.Walks.{front, lines_at}

@@ -1,5 +1,5 @@
 -- The expectations of a text, line by line.
-use Rattle.std.proofs.Common.{ℕ, zero, suc, ◌≡◌, ◌+◌, ◌-◌, ◌<◌, ◌≤◌, List, [], ◌∷◌, ◌++◌, Result, Ok, Err, drop, length, take, refl, subst, sym, ap, ◌∙◌, arith, append_assoc, append-nil}
+use Rattle.std.proofs.Common.{ℕ, suc, ◌≡◌, ◌+◌, ◌-◌, ◌<◌, ◌≤◌, List, [], ◌∷◌, ◌++◌, Result, Ok, Err, drop, length, take, refl, subst, sym, ap, ◌∙◌, arith, append_assoc}
 use Rattle.std.specs.List.{take_while}
 use Rattle.wdf_tokens.specs.Tokens.{is_inside, lines_of}
 use Rattle.wdf_parse.proofs.LinesTaken.{line_there, lines_there}

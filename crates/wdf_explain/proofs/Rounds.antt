@@ -1,5 +1,5 @@
 -- A step more from line to line.
-use Rattle.std.proofs.Common.{◌≡◌, ℕ, zero, suc, ◌+◌, ◌-◌, ◌<◌, List, ◌++◌, codes, decimal, Option, Some, None, refl, sym, subst, ap, ◌∙◌, arith, append_assoc}
+use Rattle.std.proofs.Common.{◌≡◌, ℕ, suc, ◌+◌, ◌-◌, ◌<◌, List, ◌++◌, codes, decimal, Option, Some, sym, ap, ◌∙◌, arith, append_assoc}
 use Rattle.std.specs.Option.{option_and_then}
 use Rattle.wdf_explain.specs.Links.{by_next, follow, next_at, steps_text}
 

@@ -1,5 +1,5 @@
 -- The lines of a wait list, each with the line that its cause names; and the circle that these make. (own)
-use Rattle.std.specs.Prelude.{ℕ, zero, suc, ◌+◌, ◌-◌, ◌==◌, Bool, true, false, List, [], ◌++◌, codes, decimal, find, length, map, Option, Some, None, is_some, position, slice_index_or}
+use Rattle.std.specs.Prelude.{ℕ, zero, suc, ◌+◌, ◌-◌, ◌==◌, Bool, false, List, [], ◌++◌, codes, decimal, find, length, map, Option, Some, None, is_some, position, slice_index_or}
 use Rattle.std.specs.List.{range_with_len}
 use Rattle.std.specs.Option.{option_and_then}
 use Rattle.wdf_base.specs.declared.wait.OpenThing.{OpenThing}

@@ -18,7 +18,7 @@ use Rattle.wdf_lines.specs.Endings.{wait_text}
 use Rattle.wdf_lines.specs.Lines.{object_text}
 use Rattle.wdf_explain.specs.declared.told.Doing.{Doing}
 use Rattle.wdf_explain.specs.declared.told.Standing.{Standing}
-use Rattle.wdf_explain.specs.declared.asked.Asked.TheVariants.{About, Moves, OnCpu}
+use Rattle.wdf_explain.specs.declared.asked.Asked.TheVariants.{About, OnCpu}
 use Rattle.wdf_explain.specs.About.{event_lines, frame_of, last_of, numbers_of}
 use Rattle.wdf_explain.specs.Links.{circle_text, next_of}
 use Rattle.wdf_explain.specs.Rules.{rule_text, why_text}

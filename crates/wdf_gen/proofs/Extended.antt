@@ -1,10 +1,10 @@
 -- A scene that grows twice grows by all the lines.
-use Rattle.std.proofs.Common.{◌≡◌, ℕ, zero, suc, ◌+◌, List, [], ◌∷◌, ◌++◌, length, refl, ap, ◌∙◌, sym, arith, length-append, append-nil, append_assoc}
+use Rattle.std.proofs.Common.{◌≡◌, ℕ, suc, ◌+◌, List, [], ◌∷◌, ◌++◌, length, refl, ap, ◌∙◌, sym, arith, length-append, append-nil, append_assoc}
 use Rattle.wdf_scene.specs.declared.line.NumberedLine.{NumberedLine}
 use Rattle.wdf_scene.specs.declared.line.SceneExpr.{SceneExpr}
 use Rattle.wdf_scene.specs.declared.line.SceneExpr.TheVariants as expr
 use Rattle.wdf_scene.specs.declared.scene.Scene.{Scene}
-use Rattle.wdf_scene.specs.Written.{Tree, Leaf, Node, Argument, Missing, Valued, OfClass, Written, Plain, Picked, Single, Calling, nodes, root, size, argument_nodes, argument_size, line_at, nodes_at, written_size, picks_in, lines_at, exprs_at}
+use Rattle.wdf_scene.specs.Written.{Tree, Leaf, Node, Argument, Missing, Written, Plain, Picked, Single, Calling, nodes, root, size, argument_nodes, argument_size, line_at, nodes_at, written_size, picks_in, lines_at, exprs_at}
 use Rattle.wdf_gen.specs.Generated.{numbered}
 use Rattle.wdf_gen.specs.Writing.{extended}
 

@@ -1,12 +1,12 @@
 -- What two ranges come to that follow one another.
-use Rattle.std.proofs.Common.{ℕ, ◌≡◌, ◌≤◌, ◌+◌, ◌-◌, ◌*◌, ◌^◌, List, ◌++◌, Result, Ok, IfOk, refl, subst, arith, sum_by}
+use Rattle.std.proofs.Common.{ℕ, ◌≡◌, ◌≤◌, ◌+◌, ◌-◌, ◌*◌, ◌^◌, List, ◌++◌, Result, Ok, IfOk, subst, arith, sum_by}
 use Rattle.std.proofs.lemmas.List.Sums.{sum_by-append}
 use Rattle.wdf_base.specs.declared.memory.Memory.{Memory}
 use Rattle.wdf_table.specs.declared.row.Row.{Row}
 use Rattle.wdf_table.specs.Tables.{IsTallyOf, all_seeds}
 use Rattle.wdf_tries.specs.declared.range.Hunted.{Hunted}
 use Rattle.wdf_tries.specs.declared.tried.Case.{Case}
-use Rattle.wdf_tries.specs.Tries.{IsHuntOf, events_of}
+use Rattle.wdf_tries.specs.Tries.{IsHuntOf}
 use Rattle.wdf_tries.proofs.Ranges.{tries_of_two}
 
 pub hunt_of_both : (tried : Case) (from m n : ℕ) (first second both : Hunted) → IsHuntOf tried from m first → IsHuntOf tried (from + m) n second

@@ -18,7 +18,8 @@ use Rattle.wdf_lock.specs.Holders.{Holds, held_at, lock_id, no_holders, with_hol
 use Rattle.wdf_lock.specs.Holds.{is_call_of, is_of, passes, uncounted}
 use Rattle.wdf_lock.specs.Kept.{IsKept}
 use Rattle.wdf_lock.proofs.Finding.{found_not, found_passes, found_still, none_counted, one_leaves}
-use Rattle.wdf_lock.proofs.SameLocks.{held_at_put, itself, one_lock}
+use Rattle.wdf_lock.proofs.SameLocks.{held_at_put}
+use Rattle.wdf_model.proofs.Sames.{lock_itself, one_lock}
 
 pub kept_opening : IsKept no_locks no_holders []
 kept_opening = record {
@@ -60,7 +61,7 @@ apart l other n h is =
       | inl both ↦
           let a : h.lock ≡ l = one_lock h.lock l is in
           let b : h.lock ≡ other = one_lock h.lock other both in
-          let same : same_lock other l ≡ true = subst (λ k. same_lock k l ≡ true) b (subst (λ k. same_lock h.lock k ≡ true) a (itself h.lock)) in
+          let same : same_lock other l ≡ true = subst (λ k. same_lock k l ≡ true) b (subst (λ k. same_lock h.lock k ≡ true) a (lock_itself h.lock)) in
           absurd (let z : ⊥ = cc in z)
       | inr none ↦ none
     ]
@@ -112,7 +113,7 @@ kept_take L H counts l f by_call free within h =
             kept_at H l (Some (new_hold l f by_call)) k true kept e
             ∙ sym (ap (λ x. find (is_of x) (L.held ++ new_hold l f by_call ∷ [])) same
             ∙ find_behind (is_of l) L.held (new_hold l f by_call ∷ []) none
-            ∙ ap (λ b. if b then Some (new_hold l f by_call) else None) (itself l))
+            ∙ ap (λ b. if b then Some (new_hold l f by_call) else None) (lock_itself l))
         | inr e ↦
             let no : same_lock l k ≡ false = other_way k l e in
             kept_at H l (Some (new_hold l f by_call)) k false kept e
@@ -128,7 +129,7 @@ kept_take L H counts l f by_call free within h =
   where
     other_way : (a b : LockRef) → same_lock a b ≡ false → same_lock b a ≡ false
     other_way a b e = elim (cases_Bool (same_lock b a)) [
-      | inl same ↦ let one : b ≡ a = one_lock b a same in absurd (let z : same_lock a b ≡ true = subst (λ k. same_lock a k ≡ true) (sym one) (itself a) in let y : ⊥ = cc in y)
+      | inl same ↦ let one : b ≡ a = one_lock b a same in absurd (let z : same_lock a b ≡ true = subst (λ k. same_lock a k ≡ true) (sym one) (lock_itself a) in let y : ⊥ = cc in y)
       | inr none ↦ none
     ]
 

@@ -1,33 +1,11 @@
 -- When two locks are one.
-use Rattle.std.proofs.Common.{if◌then◌else◌, ◌≡◌, ◌==◌, true, Option, None, refl, ap}
-use Rattle.std.proofs.lemmas.Bool.{eqb-true}
-use Rattle.wdf_base.specs.declared.ids.ObjectId.{ObjectId}
+use Rattle.std.proofs.Common.{if◌then◌else◌, ◌≡◌, Option, None, refl}
 use Rattle.wdf_base.specs.declared.object.LockRef.{LockRef}
 use Rattle.wdf_base.specs.declared.object.LockRef.TheVariants as lock
 use Rattle.wdf_base.specs.Same.{same_lock}
 use Rattle.wdf_model.specs.declared.entries.Held.{Held}
 use Rattle.wdf_model.proofs.Maps.{entry_put}
-use Rattle.wdf_model.proofs.Counts.{equal}
 use Rattle.wdf_lock.specs.Holders.{Holds, held_at, put_hold}
-
-same_ids : (a b : ObjectId) → (a.0 == b.0) ≡ true → a ≡ b
-same_ids a b e = ap (λ n. record { 0 = n }) (eqb-true a.0 b.0 e)
-
-pub one_lock : (a b : LockRef) → same_lock a b ≡ true → a ≡ b
-one_lock (lock.Object a) (lock.Object b) e = ap lock.Object (same_ids a b e)
-one_lock (lock.DeviceScope a) (lock.DeviceScope b) e = ap lock.DeviceScope (same_ids a b e)
-one_lock (lock.QueueScope a) (lock.QueueScope b) e = ap lock.QueueScope (same_ids a b e)
-one_lock (lock.Object a) (lock.DeviceScope b) e = absurd (let z : ⊥ = cc in z)
-one_lock (lock.Object a) (lock.QueueScope b) e = absurd (let z : ⊥ = cc in z)
-one_lock (lock.DeviceScope a) (lock.Object b) e = absurd (let z : ⊥ = cc in z)
-one_lock (lock.DeviceScope a) (lock.QueueScope b) e = absurd (let z : ⊥ = cc in z)
-one_lock (lock.QueueScope a) (lock.Object b) e = absurd (let z : ⊥ = cc in z)
-one_lock (lock.QueueScope a) (lock.DeviceScope b) e = absurd (let z : ⊥ = cc in z)
-
-pub itself : (a : LockRef) → same_lock a a ≡ true
-itself (lock.Object a) = equal a.0 a.0 refl
-itself (lock.DeviceScope a) = equal a.0 a.0 refl
-itself (lock.QueueScope a) = equal a.0 a.0 refl
 
 -- what is kept of a lock after the hold of one was written
 pub held_at_put : (H : Holds) (l : LockRef) (hold : Option Held) (other : LockRef) → held_at (put_hold H l hold) other ≡ (if same_lock other l then hold else held_at H other)

@@ -1,13 +1,12 @@
 -- Where a key is in a list whose keys rise, and what an edit at that place leaves.
-use Rattle.std.proofs.Common.{if◌then◌else◌, ℕ, zero, suc, ◌+◌, ◌<◌, ◌≤◌, ◌≡◌, ◌≢◌, Bool, true, false, cond, not, ◌==◌, nat_lt, nat_le, ◌&&◌, List, [], ◌∷◌, ◌++◌, length, take, drop, map, subst, filter, find, is_some, slice_index_or, slice_get, slice_set, Option, Some, None, Result, Ok, Err, refl, sym, ap, ◌∙◌, arith}
-use Rattle.std.specs.List.{insert, remove, list_any}
+use Rattle.std.proofs.Common.{if◌then◌else◌, ℕ, zero, suc, ◌+◌, ◌<◌, ◌≤◌, ◌≡◌, Bool, true, false, not, ◌==◌, nat_lt, List, [], ◌∷◌, length, map, subst, filter, find, slice_index_or, slice_get, Some, None, Result, Ok, Err, refl, sym, ap, arith}
 use Rattle.std.specs.List.Sorted.{IsNonDecreasingBy, IsBinarySearchResult, IsSearchInRange}
 use Rattle.std.specs.Ordering.{nat_cmp, ordering_index}
 use Rattle.std.specs.declared.cmp.Ordering.TheVariants.{Less, Equal, Greater}
-use Rattle.std.proofs.lemmas.Bool.{eq-eqb, eqb-true, ltb-true, ltb-false}
+use Rattle.std.proofs.lemmas.Bool.{ltb-true, ltb-false}
 use Rattle.std.proofs.lemmas.Bool.Decides.{nat_tests}
 use Rattle.wdf_model.specs.Tables.{in_order_by}
-use Rattle.wdf_maps.specs.Places.{SplitsAt, number_of, rises, one_on, place_of, item_at, removed_at, entered_at, entry_of, others, with_entry, IsPlace}
+use Rattle.wdf_maps.specs.Places.{SplitsAt, number_of, rises, one_on, place_of, item_at, removed_at, entered_at, others, with_entry, IsPlace}
 
 module _ {T : Type 0} (key : T → ℕ) where
   -- the parts of `rises` at a first item

@@ -1,5 +1,5 @@
 -- To count an event before its deeds or after them is the same: no deed reads the agents or the count.
-use Rattle.std.proofs.Common.{if◌then◌else◌, ◌≡◌, ℕ, ◌+◌, sym, Bool, true, false, List, [], ◌∷◌, fold, refl, ap, ◌∙◌}
+use Rattle.std.proofs.Common.{◌≡◌, ℕ, ◌+◌, sym, Bool, true, false, List, [], ◌∷◌, fold, refl, ap, ◌∙◌}
 use Rattle.wdf_base.specs.Meaning.{Meaning}
 use Rattle.wdf_base.specs.declared.plan.Plan.{Plan}
 use Rattle.wdf_base.specs.declared.event.Event.{Event}

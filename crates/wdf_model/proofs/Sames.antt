@@ -1,9 +1,10 @@
 -- What passes a test of equality is equal.
-use Rattle.std.proofs.Common.{◌≡◌, true, rules}
+use Rattle.std.proofs.Common.{◌≡◌, true, refl, rules}
 use Rattle.std.specs.Bool.{Decides}
 use Rattle.wdf_base.specs.declared.ids.Cpu.{Cpu}
 use Rattle.wdf_base.specs.declared.ids.Handle.{Handle}
 use Rattle.wdf_base.specs.declared.object.Kind.{Kind}
+use Rattle.wdf_base.specs.declared.object.LockRef.{LockRef}
 use Rattle.wdf_base.specs.declared.value.Status.{Status}
 use Rattle.wdf_base.specs.declared.value.Value.{Value}
 use Rattle.wdf_base.specs.declared.value.Value.TheVariants.{Num, Obj, Stat}
@@ -14,7 +15,7 @@ use Rattle.wdf_base.specs.declared.call.CallKind.{CallKind}
 use Rattle.wdf_base.specs.declared.call.Callback.{Callback}
 use Rattle.wdf_base.specs.declared.event.Event.{Event}
 use Rattle.wdf_base.specs.declared.event.Event.TheVariants as event
-use Rattle.wdf_base.specs.Same.{same_arg, same_call, same_call_kind, same_callback, same_event, same_handle, same_kind, same_status, same_value}
+use Rattle.wdf_base.specs.Same.{same_arg, same_call, same_call_kind, same_callback, same_event, same_handle, same_kind, same_lock, same_status, same_value}
 use Rattle.wdf_model.proofs.Tests.{both_left, both_right}
 
 pub status_decides : (a b : Status) → Decides (same_status a b) (a ≡ b)
@@ -28,6 +29,15 @@ call_kind_decides a b = search rules
 
 pub kind_decides : (a b : Kind) → Decides (same_kind a b) (a ≡ b)
 kind_decides a b = search rules
+
+pub lock_decides : (a b : LockRef) → Decides (same_lock a b) (a ≡ b)
+lock_decides a b = search rules
+
+pub one_lock : (a b : LockRef) → same_lock a b ≡ true → a ≡ b
+one_lock a b h = (lock_decides a b).0 h
+
+pub lock_itself : (a : LockRef) → same_lock a a ≡ true
+lock_itself a = (lock_decides a a).1 refl
 
 pub handle_decides : (a b : Handle) → Decides (same_handle a b) (a ≡ b)
 handle_decides a b = search rules

@@ -5,7 +5,7 @@ use Rattle.std.specs.List.{cons_option, filter_map, list_all, list_any, range_wi
 use Rattle.std.proofs.Math.Bool.{not-not}
 use Rattle.std.proofs.lemmas.Bool.{eqb-false, eqb-true, le-ltb, lt-ltb, ltb-false, ltb-true}
 use Rattle.std.proofs.lemmas.List.{length-map}
-use Rattle.std.proofs.lemmas.List.Sums.{count_by-le-length, length-filter}
+use Rattle.std.proofs.lemmas.List.Sums.{length-filter}
 use Rattle.std.proofs.lemmas.Option.{slice_get-map}
 use Rattle.wdf_base.specs.Meaning.{Meaning}
 use Rattle.wdf_base.specs.declared.call.Call.{Call}
@@ -27,9 +27,9 @@ use Rattle.wdf_model.specs.rules.Steps.{is_cpu, may, wait_is_over}
 use Rattle.wdf_model.proofs.Counts.{count_cons, equal}
 use Rattle.wdf_model.proofs.Tests.{both, both_left, both_right, either_false, left_fails, not_true, right_fails}
 use Rattle.wdf_sets.specs.Nexts.{IsNext, NoneFrom}
-use Rattle.wdf_cpu.specs.ParkedFor.{is_for, lock_in, lock_key, lock_of_call, some_parked_for, takes_wait_lock}
+use Rattle.wdf_cpu.specs.ParkedFor.{is_for, lock_in, lock_key, some_parked_for, takes_wait_lock}
 use Rattle.wdf_cpu.proofs.Counting.{any_counted}
-use Rattle.wdf_offers.specs.Parked.{all_blocked, is_blocked, is_counted, is_freed, is_held, is_open}
+use Rattle.wdf_offers.specs.Parked.{all_blocked, is_blocked, is_counted, is_freed, is_held}
 use Rattle.wdf_offers.specs.Search.{if_allowed, offered, offered_from}
 
 -- ---- locks

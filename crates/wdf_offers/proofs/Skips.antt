@@ -20,12 +20,12 @@ use Rattle.wdf_model.proofs.Tests.{both_left}
 use Rattle.wdf_model.specs.declared.enums.Group.{Group}
 use Rattle.wdf_model.specs.declared.enums.Group.TheVariants as group
 use Rattle.wdf_model.specs.Tables.{ids_of}
-use Rattle.wdf_model.specs.parts.Tree.{life_of, may_clean, next_id}
+use Rattle.wdf_model.specs.parts.Tree.{life_of, may_clean}
 use Rattle.wdf_model.specs.parts.Requests.{place_of}
 use Rattle.wdf_model.specs.State.{State, handle_in, is_proper}
 use Rattle.wdf_model.specs.rules.Starts.{callback_over, clean_ready, destroy_ready}
 use Rattle.wdf_model.specs.rules.Steps.{may}
-use Rattle.wdf_model.specs.rules.Groups.{completion_at, is_declared_somewhere, places_for, places_if, places_in}
+use Rattle.wdf_model.specs.rules.Groups.{completion_at, places_for, places_in}
 use Rattle.wdf_request.specs.Closing.{closing_requests}
 use Rattle.wdf_sets.specs.Nexts.{IsNext, NoneFrom}
 use Rattle.wdf_sets.proofs.Nexts.{First, find_filter, first_in, none_in}

@@ -1,6 +1,6 @@
 -- When nothing may come of a group, as levels and counts say without a look at its places; and of which places of a
 -- group for requests something may come. (own)
-use Rattle.std.specs.Prelude.{if◌then◌else◌, ℕ, Bool, true, false, not, ◌&&◌, ◌||◌, nat_le, nat_lt, length, Option, Some, None, find, slice_get}
+use Rattle.std.specs.Prelude.{if◌then◌else◌, ℕ, Bool, true, false, not, ◌&&◌, ◌||◌, nat_lt, length, Option, Some, None, slice_get}
 use Rattle.std.specs.List.{list_any}
 use Rattle.wdf_base.specs.Callbacks.{row_of}
 use Rattle.wdf_base.specs.Same.{same_option, same_step}
@@ -21,7 +21,6 @@ use Rattle.wdf_model.specs.declared.enums.Group.{Group}
 use Rattle.wdf_model.specs.declared.enums.Group.TheVariants as group
 use Rattle.wdf_model.specs.Plans.{callback_irql, is_managed}
 use Rattle.wdf_model.specs.State.{State}
-use Rattle.wdf_model.specs.Tables.{ids_of}
 use Rattle.wdf_model.specs.parts.Cpus.{is_empty_cpu}
 use Rattle.wdf_model.specs.parts.Control.{notify_due}
 use Rattle.wdf_model.specs.parts.Deferred.Timers.{timer_due}

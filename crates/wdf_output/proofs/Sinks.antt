@@ -6,7 +6,7 @@ use Rattle.wdf_io.specs.Outside.{EndsRefused}
 use Rattle.wdf_parse.specs.declared.refusal.ParseRefusal.TheVariants as parse
 use Rattle.wdf_refusals.specs.declared.refusal.PlanRefusal.TheVariants as plan
 use Rattle.wdf_output.specs.declared.refusal.Refusal.{Refusal}
-use Rattle.wdf_output.specs.declared.refusal.Refusal.TheVariants.{ReadFault, TooLarge, NoMemory, NoScene, NoPlan}
+use Rattle.wdf_output.specs.declared.refusal.Refusal.TheVariants.{NoScene, NoPlan}
 use Rattle.wdf_output.specs.Endings.{status_of}
 use Rattle.wdf_output.specs.Refusals.{refusal_status}
 

@@ -1,6 +1,6 @@
 -- What is built of some lines.
-use Rattle.std.proofs.Common.{◌≡◌, ℕ, suc, ◌+◌, ◌-◌, ◌<◌, Bool, true, false, cond, ◌&&◌, not, ◌⊎◌, inl, inr, List, [], ◌∷◌, ◌++◌, map, length, drop, Option, Some, None, option_map, Result, Ok, Err, IsSomeAnd, IsTrue, refl, ap, ◌∙◌, sym, subst, arith, append_assoc, append-nil, length-append, length-drop}
-use Rattle.std.specs.Prelude.{◌==◌, if◌then◌else◌}
+use Rattle.std.proofs.Common.{◌≡◌, ℕ, suc, ◌+◌, ◌-◌, Bool, true, false, cond, List, [], ◌∷◌, ◌++◌, map, length, drop, Option, Some, None, option_map, Result, Ok, Err, IsTrue, refl, ap, ◌∙◌, sym, subst, arith, append_assoc, append-nil, length-append, length-drop}
+use Rattle.std.specs.Prelude.{◌==◌}
 use Rattle.std.specs.List.{list_all}
 use Rattle.std.specs.Option.{is_none}
 use Rattle.wdf_scene.specs.declared.block.Block.{Block}
@@ -9,9 +9,9 @@ use Rattle.wdf_scene.specs.declared.line.SceneExpr.{SceneExpr}
 use Rattle.wdf_scene.specs.declared.line.SceneLine.{SceneLine}
 use Rattle.wdf_scene.specs.declared.line.SceneLine.TheVariants as line
 use Rattle.wdf_scene.specs.declared.scene.Scene.{Scene}
-use Rattle.wdf_scene.specs.Blocks.{Position, front, innermost, in_if, is_outside, moved, may_stand, opened, with_opened, openers_after, IsWhole}
+use Rattle.wdf_scene.specs.Blocks.{Position, innermost, in_if, is_outside, moved, may_stand, opened, with_opened, openers_after}
 use Rattle.wdf_scene.specs.Blocks as blocks
-use Rattle.wdf_scene.specs.Written.{Written, WrittenLine, Plain, Picked, Single, Calling, is_written, line_at, nodes_at, written_size, picks_in, lines_at, exprs_at, scene_of, AreLines}
+use Rattle.wdf_scene.specs.Written.{WrittenLine, is_written, line_at, nodes_at, written_size, picks_in, lines_at, exprs_at, scene_of, AreLines}
 use Rattle.wdf_tokens.specs.Tokens.{lines_of}
 use Rattle.wdf_scene_lines.specs.Building.{next_node}
 use Rattle.wdf_parse.specs.declared.reader.Reader.{Reader}
@@ -19,8 +19,8 @@ use Rattle.wdf_parse.specs.declared.refusal.ParseRefusal.{ParseRefusal}
 use Rattle.wdf_parse.specs.declared.refusal.ParseRefusal.TheVariants as refusal
 use Rattle.wdf_parse.specs.Standing.{first_number}
 use Rattle.wdf_parse.specs.StandsFor.{StandsFor, spelled_line, version_lines}
-use Rattle.wdf_parse.specs.Texts.{opening, with_written, line_taken, after_lines, closed, at_end, finished, reading}
-use Rattle.wdf_parse.proofs.History.{Good, AllGood, taken_by, FrontHistory, front_history}
+use Rattle.wdf_parse.specs.Texts.{opening, with_written, after_lines, closed, finished, reading}
+use Rattle.wdf_parse.proofs.History.{AllGood, taken_by, FrontHistory, front_history}
 use Rattle.wdf_parse.proofs.PrintedLines.{length_nodes_at}
 
 -- as many lines opened blocks as blocks are open

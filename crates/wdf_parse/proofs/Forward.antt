@@ -2,7 +2,6 @@
 use Rattle.std.proofs.Common.{◌≡◌, ℕ, suc, ◌+◌, Bool, true, false, cond, ◌&&◌, ◌⊎◌, inl, inr, List, [], ◌∷◌, ◌++◌, map, length, Option, Some, None, option_map, Result, Ok, Err, refl, ap, ◌∙◌, sym, subst, length-append}
 use Rattle.std.specs.List.{list_all}
 use Rattle.wdf_base.proofs.Tests.{both_left, both_right}
-use Rattle.wdf_scene.specs.declared.line.NumberedLine.{NumberedLine}
 use Rattle.wdf_scene.specs.declared.line.SceneLine.{SceneLine}
 use Rattle.wdf_scene.specs.Blocks.{Position, front, moved, may_stand}
 use Rattle.wdf_scene.specs.Blocks as blocks
@@ -15,9 +14,8 @@ use Rattle.wdf_scene_lines.specs.Reading.{read_written}
 use Rattle.wdf_scene_lines.specs.Spelling.{written_tokens}
 use Rattle.wdf_scene_lines.proofs.Completeness.{written_read}
 use Rattle.wdf_parse.specs.declared.reader.Reader.{Reader}
-use Rattle.wdf_parse.specs.declared.refusal.ParseRefusal.{ParseRefusal}
 use Rattle.wdf_parse.specs.StandsFor.{TokenLine, with_token_line, token_lines, spelled_line, version_tokens, version_lines}
-use Rattle.wdf_parse.specs.Texts.{opening, with_written, line_taken, is_version, is_at_front, tokens_taken, or_bad_line, after_tokens, after_line, after_lines}
+use Rattle.wdf_parse.specs.Texts.{opening, with_written, line_taken, is_version, is_at_front, or_bad_line, after_tokens, after_line, after_lines}
 use Rattle.wdf_parse.proofs.History.{taken_by}
 use Rattle.wdf_parse.proofs.NotVersion.{read_not_version}
 use Rattle.wdf_parse.proofs.PrintedLines.{length_nodes_at}

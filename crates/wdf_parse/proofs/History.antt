@@ -1,19 +1,19 @@
 -- A text that is read is a list of lines, each read from its tokens.
-use Rattle.std.proofs.Common.{◌≡◌, ℕ, suc, ◌+◌, Bool, true, false, cond, ◌&&◌, ◌⊎◌, inl, inr, List, [], ◌∷◌, ◌++◌, map, length, Option, Some, None, option_map, Result, Ok, Err, refl, ap, ◌∙◌, sym, subst}
+use Rattle.std.proofs.Common.{◌≡◌, ℕ, suc, ◌+◌, Bool, true, false, cond, ◌&&◌, ◌⊎◌, inl, inr, List, [], ◌∷◌, ◌++◌, map, Option, Some, None, Result, Ok, Err, refl, ap, ◌∙◌, sym}
 use Rattle.std.specs.Prelude.{◌==◌}
 use Rattle.std.specs.List.{list_all}
 use Rattle.std.proofs.lemmas.Bool.{eqb-true}
 use Rattle.std.proofs.Math.Bool.{and-false, and-true}
 use Rattle.wdf_scene.specs.declared.line.SceneLine.{SceneLine}
 use Rattle.wdf_scene.specs.declared.line.SceneLine.TheVariants as line
-use Rattle.wdf_scene.specs.Blocks.{Position, front, noted, moved, may_stand}
+use Rattle.wdf_scene.specs.Blocks.{Position, front, moved, may_stand}
 use Rattle.wdf_scene.specs.Written.{Written, WrittenLine, is_written, line_at}
 use Rattle.wdf_tokens.specs.declared.keyword.Keyword.{Keyword}
 use Rattle.wdf_tokens.specs.declared.keyword.Keyword.TheVariants as keyword
 use Rattle.wdf_tokens.specs.declared.lexer.TokenFault.{TokenFault}
 use Rattle.wdf_tokens.specs.declared.token.Token.{Token}
 use Rattle.wdf_tokens.specs.declared.token.Token.TheVariants as token
-use Rattle.wdf_tokens.specs.Keywords.{keyword_of, keyword_word}
+use Rattle.wdf_tokens.specs.Keywords.{keyword_of}
 use Rattle.wdf_tokens.specs.WordTokens.{word}
 use Rattle.wdf_tokens.specs.Tokens.{line_reading}
 use Rattle.wdf_tokens.specs.WellFormed.{is_token}
@@ -22,10 +22,9 @@ use Rattle.wdf_tokens.proofs.LexedTokens.{read_fit}
 use Rattle.wdf_scene_lines.specs.Building.{next_node}
 use Rattle.wdf_scene_lines.specs.Reading.{read_written}
 use Rattle.wdf_scene_lines.specs.Spelling.{written_tokens}
-use Rattle.wdf_scene_lines.proofs.LineSoundness.{SpellsLine, read_spelled}
+use Rattle.wdf_scene_lines.proofs.LineSoundness.{read_spelled}
 use Rattle.wdf_parse.specs.declared.reader.Reader.{Reader}
-use Rattle.wdf_parse.specs.declared.refusal.ParseRefusal.{ParseRefusal}
-use Rattle.wdf_parse.specs.StandsFor.{TokenLine, with_token_line, token_lines, spelled_line, version_tokens, version_lines}
+use Rattle.wdf_parse.specs.StandsFor.{with_token_line, token_lines, spelled_line, version_tokens, version_lines}
 use Rattle.wdf_parse.specs.Texts.{opening, with_written, line_taken, version_mark, is_version, is_at_front, tokens_taken, or_bad_line, after_tokens, after_line, after_lines}
 
 -- a line is read from the tokens that spell it

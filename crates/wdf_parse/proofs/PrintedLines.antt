@@ -1,18 +1,17 @@
 -- What is printed of a scene is spelled by its lines.
-use Rattle.std.proofs.Common.{◌≡◌, ℕ, zero, suc, ◌+◌, ◌≤◌, max, Bool, true, false, ◌&&◌, nat_le, List, [], ◌∷◌, ◌++◌, map, length, flat_map, slice_get, Option, Some, None, IsTrue, refl, ap, ◌∙◌, sym, arith, append_assoc, append-nil, length-append}
+use Rattle.std.proofs.Common.{◌≡◌, ℕ, zero, suc, ◌+◌, ◌≤◌, Bool, true, false, ◌&&◌, nat_le, List, [], ◌∷◌, ◌++◌, length, flat_map, slice_get, Some, refl, ap, ◌∙◌, sym, arith, append_assoc, append-nil, length-append}
 use Rattle.std.specs.List.{list_all}
 use Rattle.std.proofs.lemmas.Bool.{leb-true}
 use Rattle.wdf_base.specs.Words.{call_word}
 use Rattle.wdf_tokens.specs.declared.keyword.Keyword.TheVariants as keyword
 use Rattle.wdf_base.specs.declared.script.Operator.{Operator}
-use Rattle.wdf_scene.specs.declared.line.NumberedLine.{NumberedLine}
 use Rattle.wdf_scene.specs.declared.line.SceneExpr.{SceneExpr}
 use Rattle.wdf_scene.specs.declared.line.SceneExpr.TheVariants as expr
 use Rattle.wdf_scene.specs.declared.line.SceneLine.{SceneLine}
 use Rattle.wdf_scene.specs.declared.line.SceneLine.TheVariants as line
 use Rattle.wdf_scene.specs.declared.line.StatementHead.{StatementHead}
 use Rattle.wdf_scene.specs.declared.line.StatementHead.TheVariants as head
-use Rattle.wdf_scene.specs.Written.{Atom, Number, Named, Literal, Context, Tree, Leaf, Node, Argument, Missing, Valued, OfClass, Written, Plain, Picked, Single, Calling, WrittenLine, atom_node, depth, size, root, nodes, head_line, argument_nodes, argument_size, numbered_argument, line_at, nodes_at, written_size, picks_in, is_plain_form, is_proper, is_written, lines_at, exprs_at}
+use Rattle.wdf_scene.specs.Written.{Atom, Number, Tree, Leaf, Node, Argument, Missing, Valued, OfClass, Written, Plain, Picked, Single, Calling, WrittenLine, atom_node, depth, size, root, nodes, head_line, argument_nodes, argument_size, numbered_argument, line_at, nodes_at, written_size, picks_in, is_plain_form, is_proper, is_written, lines_at, exprs_at}
 use Rattle.wdf_tokens.specs.declared.token.Token.{Token}
 use Rattle.wdf_tokens.specs.declared.token.Token.TheVariants as token
 use Rattle.wdf_tokens.specs.WordTokens.{word}

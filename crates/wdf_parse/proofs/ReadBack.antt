@@ -1,6 +1,6 @@
 -- A scene that is printed is read back.
-use Rattle.std.proofs.Common.{◌≡◌, ℕ, suc, ◌+◌, ◌-◌, Bool, true, false, cond, ◌&&◌, ◌⊎◌, inl, inr, List, [], ◌∷◌, ◌++◌, map, flat_map, length, drop, Option, Some, None, option_map, Result, Ok, Err, refl, ap, ◌∙◌, sym, subst, arith, append-nil, length-append, length-drop}
-use Rattle.std.specs.Prelude.{◌==◌, if◌then◌else◌, Vec, IfOk}
+use Rattle.std.proofs.Common.{◌≡◌, ℕ, suc, ◌+◌, ◌-◌, Bool, true, false, cond, ◌&&◌, ◌⊎◌, inl, inr, List, [], ◌∷◌, ◌++◌, map, flat_map, length, drop, Option, Some, None, option_map, Result, Ok, Err, refl, ap, ◌∙◌, sym, subst, arith, length-drop}
+use Rattle.std.specs.Prelude.{◌==◌, Vec, IfOk}
 use Rattle.std.specs.declared.alloc.Global.{Global}
 use Rattle.std.specs.List.{list_all}
 use Rattle.std.proofs.lemmas.List.{map-append}
@@ -11,14 +11,12 @@ use Rattle.wdf_scene.specs.declared.line.SceneLine.{SceneLine}
 use Rattle.wdf_scene.specs.declared.line.SceneLine.TheVariants as line
 use Rattle.wdf_scene.specs.declared.scene.Scene.{Scene}
 use Rattle.wdf_scene.specs.Blocks.{Position, moved, may_stand, opened, with_opened, openers_after}
-use Rattle.wdf_scene.specs.Written.{Written, WrittenLine, is_written, line_at, nodes_at, picks_in, lines_at, exprs_at, scene_of, AreLines}
+use Rattle.wdf_scene.specs.Written.{Written, WrittenLine, is_written, line_at, nodes_at, picks_in, exprs_at, scene_of}
 use Rattle.wdf_tokens.specs.declared.keyword.Keyword.TheVariants as keyword
 use Rattle.wdf_tokens.specs.declared.token.Token.{Token}
 use Rattle.wdf_tokens.specs.declared.token.Token.TheVariants as token
-use Rattle.wdf_tokens.specs.TokenTexts.{line_bytes, line_text}
-use Rattle.wdf_tokens.specs.Keywords.{keyword_of}
-use Rattle.wdf_tokens.specs.WordTokens.{word}
-use Rattle.wdf_tokens.specs.Tokens.{line_reading, lines_of}
+use Rattle.wdf_tokens.specs.TokenTexts.{line_bytes}
+use Rattle.wdf_tokens.specs.Tokens.{lines_of}
 use Rattle.wdf_tokens.specs.WellFormed.{is_token}
 use Rattle.wdf_tokens.proofs.KeywordLaws.{keyword_back}
 use Rattle.wdf_tokens.proofs.Respelling.{line_is_read, first_line_text}
@@ -26,15 +24,14 @@ use Rattle.wdf_scene_lines.specs.Building.{next_node}
 use Rattle.wdf_scene_lines.specs.Reading.{read_written}
 use Rattle.wdf_scene_lines.specs.Spelling.{written_tokens}
 use Rattle.wdf_parse.specs.declared.reader.Reader.{Reader}
-use Rattle.wdf_parse.specs.declared.refusal.ParseRefusal.{ParseRefusal}
 use Rattle.wdf_parse.specs.declared.refusal.ParseRefusal.TheVariants as refusal
 use Rattle.wdf_parse.specs.Canonical.{written_text, canonical_text}
 use Rattle.wdf_parse.specs.Printing.{version_text, printed}
 use Rattle.wdf_parse.specs.Standing.{first_number}
 use Rattle.wdf_parse.specs.StandsFor.{StandsFor, version_tokens, without_number, without_numbers}
 use Rattle.wdf_parse.specs.Laws.{IsReadBack}
-use Rattle.wdf_parse.specs.Texts.{opening, with_written, line_taken, version_mark, is_version, is_at_front, tokens_taken, or_bad_line, after_tokens, after_line, after_lines, closed, at_end, finished, reading}
-use Rattle.wdf_parse.proofs.Built.{IsRead, is_read, read_scene, all_written, read_stands}
+use Rattle.wdf_parse.specs.Texts.{opening, with_written, line_taken, version_mark, is_version, is_at_front, tokens_taken, or_bad_line, after_tokens, after_line, after_lines, closed, finished, reading}
+use Rattle.wdf_parse.proofs.Built.{is_read, read_scene, all_written, read_stands}
 use Rattle.wdf_parse.proofs.History.{Good, AllGood, taken_by}
 use Rattle.wdf_parse.proofs.NotVersion.{read_not_version}
 use Rattle.wdf_parse.proofs.PrintedLines.{lines_spelled}

@@ -1,8 +1,7 @@
 -- A text is read line by line.
-use Rattle.std.proofs.Common.{◌≡◌, ℕ, ◌+◌, ◌<◌, ◌≤◌, List, [], ◌∷◌, ◌++◌, length, get_or, drop, take, zero, suc, Bool, true, false, cond, not, Option, Some, None, refl, ap, ◌∙◌, sym, subst, arith, drop-cons, drop-drop, append_assoc, append-nil}
+use Rattle.std.proofs.Common.{◌≡◌, ℕ, ◌+◌, ◌<◌, List, [], ◌∷◌, length, get_or, drop, take, zero, suc, Bool, true, false, cond, not, refl, ap, ◌∙◌, sym, subst, arith, drop-cons, drop-drop}
 use Rattle.std.specs.Prelude.{◌==◌}
 use Rattle.std.specs.List.{take_while, prefix_len}
-use Rattle.std.proofs.lemmas.List.{drop_all}
 use Rattle.std.proofs.lemmas.List.Sums.{take_while-cons}
 use Rattle.wdf_tokens.specs.Tokens.{is_inside, lines_of, with_byte}
 

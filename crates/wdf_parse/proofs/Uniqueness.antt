@@ -1,5 +1,5 @@
 -- A scene that stands for a text is the one that is read.
-use Rattle.std.proofs.Common.{◌≡◌, ℕ, suc, ◌+◌, Bool, true, false, cond, ◌&&◌, ◌⊎◌, inl, inr, List, [], ◌∷◌, ◌++◌, map, length, Option, Some, None, option_map, Result, Ok, Err, IsSomeAnd, IsTrue, refl, ap, ◌∙◌, sym, subst, arith}
+use Rattle.std.proofs.Common.{◌≡◌, ℕ, true, List, [], ◌∷◌, map, length, Option, Some, None, Result, Ok, Err, IsSomeAnd, IsTrue, refl, ap, ◌∙◌, sym, subst, arith}
 use Rattle.std.specs.Prelude.{◌==◌, IfOk, IfErr}
 use Rattle.std.specs.Option.{is_none}
 use Rattle.wdf_base.proofs.Tests.{both_left, both_right}
@@ -7,17 +7,14 @@ use Rattle.wdf_scene.specs.declared.block.Block.{Block}
 use Rattle.wdf_scene.specs.Blocks.{Position, front, innermost, is_outside, after_lines}
 use Rattle.wdf_scene.specs.Written.{lines_at, exprs_at}
 use Rattle.wdf_tokens.specs.Tokens.{lines_of}
-use Rattle.wdf_scene.specs.declared.line.NumberedLine.{NumberedLine}
-use Rattle.wdf_scene.specs.declared.line.SceneLine.{SceneLine}
 use Rattle.wdf_scene.specs.declared.scene.Scene.{Scene}
-use Rattle.wdf_parse.specs.declared.reader.Reader.{Reader}
 use Rattle.wdf_parse.specs.declared.refusal.ParseRefusal.{ParseRefusal}
 use Rattle.wdf_parse.specs.declared.refusal.ParseRefusal.TheVariants as refusal
 use Rattle.wdf_parse.specs.Laws.{IsNoScene}
 use Rattle.wdf_parse.specs.StandsFor.{StandsFor}
 use Rattle.wdf_parse.specs.Texts.{opening, reading, IsRefusalOf}
 use Rattle.wdf_parse.proofs.Built.{read_stands, scene_parts, adds}
-use Rattle.wdf_parse.proofs.Forward.{ForwardFront, forward_front}
+use Rattle.wdf_parse.proofs.Forward.{forward_front}
 use Rattle.wdf_parse.proofs.ReadBack.{reading_ends}
 
 -- what is read stands for the text

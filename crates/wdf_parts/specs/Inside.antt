@@ -1,5 +1,5 @@
 -- What the fields of the parts say: the state that they stand for, and the room that they keep.
-use Rattle.std.specs.Prelude.{ℕ, ◌≤◌, vec_capacity}
+use Rattle.std.specs.Prelude.{◌≤◌, vec_capacity}
 use Rattle.wdf_model.specs.State.{State}
 use Rattle.wdf_model.specs.rules.Room.{AGENTS}
 use Rattle.wdf_parts.specs.declared.parts.Parts.TheInside.{Inside}

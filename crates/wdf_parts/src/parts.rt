@@ -2,12 +2,13 @@ ghost use Rattle.std.specs.Prelude.{◌≡◌, ◌≤◌, ◌+◌, ◌<◌, ◌^
 ghost use Rattle.wdf_model.specs.State.{opening, opening_agents};
 ghost use Rattle.wdf_model.specs.Tables.{entry};
 ghost use Rattle.wdf_model.specs.rules.Deeds.{counted, told};
+ghost use Rattle.wdf_model.specs.rules.Ready as ready;
 ghost use Rattle.wdf_parts.specs.Again.{IsSized};
 
 use std::alloc::Global;
 use std::marker::Model;
 use std::mem;
-use wdf_base::{Agent, Event, Memory};
+use wdf_base::{Agent, Event, Memory, ObjectId};
 use wdf_cpu::Cpus;
 use wdf_defer::{Dpcs, Timers, WorkItems};
 use wdf_intr::Interrupts;
@@ -256,6 +257,15 @@ impl<A: Agent> Parts<A> {
         ensures { result.now ≡ self.now.targets }
     {
         &self.targets
+    }
+
+    /// Whether an object is a queued DPC or work item, or a timer whose tick is reached.
+    pub fn is_open_work(&self, o: ObjectId) -> bool
+        ensures { result ≡ ready.is_open_work self.now o.0 }
+    {
+        self.dpcs.is_dpc_queued(o)
+            || self.work_items.is_work_queued(o)
+            || self.timers.timer_due(o, self.clock)
     }
 
     /// How many agents there are.

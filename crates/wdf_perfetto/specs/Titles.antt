@@ -1,5 +1,5 @@
 -- What is written on the items of a viewer. (own)
-use Rattle.std.specs.Prelude.{if◌then◌else◌, ℕ, nat_lt, ◌==◌, ◌-◌, List, [], ◌++◌, codes, decimal, Option, Some, None, slice_get}
+use Rattle.std.specs.Prelude.{if◌then◌else◌, ℕ, nat_lt, ◌==◌, ◌-◌, List, [], ◌++◌, codes, Option, Some, None, slice_get}
 use Rattle.wdf_base.specs.declared.plan.Plan.{Plan}
 use Rattle.wdf_base.specs.declared.event.Event.{Event}
 use Rattle.wdf_base.specs.Words.{callback_word, call_word, fault_word, stage_word}

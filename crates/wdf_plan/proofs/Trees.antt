@@ -11,7 +11,7 @@ use Rattle.wdf_scene.specs.declared.line.SceneLine.{SceneLine}
 use Rattle.wdf_scene.specs.declared.line.SceneLine.TheVariants as line
 use Rattle.wdf_scene.specs.declared.scene.Scene.{Scene}
 use Rattle.wdf_scene.specs.Blocks.{Position, front, moved, is_outside, innermost, in_callback, in_if, blocks_after, may_stand}
-use Rattle.wdf_scene.specs.Written.{IsScene, Written, Plain, Picked, Single, Calling, WrittenLine, lines_at, line_at, picks_in, written_size}
+use Rattle.wdf_scene.specs.Written.{IsScene, Written, Plain, Picked, WrittenLine, lines_at, line_at, picks_in, written_size}
 use Rattle.wdf_blocks.specs.Forms.{opens, is_end, is_statement}
 use Rattle.wdf_plan.specs.Scripts.{statements_from, statements_of}
 use Rattle.wdf_blocks.specs.Variables.{variables}

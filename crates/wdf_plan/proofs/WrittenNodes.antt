@@ -10,7 +10,7 @@ use Rattle.wdf_scene.specs.declared.line.SceneLine.TheVariants as line
 use Rattle.wdf_scene.specs.declared.line.StatementHead.{StatementHead}
 use Rattle.wdf_scene.specs.declared.line.StatementHead.TheVariants as head
 use Rattle.wdf_scene.specs.declared.scene.Scene.{Scene}
-use Rattle.wdf_scene.specs.Written.{Atom, Number, Named, Literal, Context, Tree, Leaf, Node, Argument, Missing, Valued, OfClass, Written, Plain, Picked, Single, Calling, WrittenLine, IsScene, size, root, nodes, atom_node, head_line, argument_size, argument_nodes, numbered_argument, line_at, nodes_at, written_size, picks_in, is_plain_form, is_written, lines_at, exprs_at}
+use Rattle.wdf_scene.specs.Written.{Atom, Number, Tree, Leaf, Node, Argument, Missing, Valued, OfClass, Written, Plain, Picked, Single, Calling, WrittenLine, IsScene, size, root, nodes, atom_node, head_line, argument_size, argument_nodes, numbered_argument, line_at, nodes_at, written_size, picks_in, is_plain_form, is_written, lines_at, exprs_at}
 use Rattle.wdf_blocks.specs.declared.placed.Counts.{Counts}
 use Rattle.wdf_blocks.specs.declared.placed.Placed.{Placed}
 use Rattle.wdf_blocks.specs.declared.placed.Stand.{Stand}

@@ -99,21 +99,12 @@ fn any_leaving<A: Agent>(parts: &Parts<A>) -> bool
     parts.tree().some_leaving()
 }
 
-/// Whether an object is a queued DPC or work item, or a timer whose tick is reached.
-fn is_open_work<A: Agent>(parts: &Parts<A>, o: ObjectId) -> bool
-    ensures { result ≡ ready.is_open_work parts.now o.0 }
-{
-    parts.dpcs().is_dpc_queued(o)
-        || parts.work_items().is_work_queued(o)
-        || parts.timers().timer_due(o, parts.now())
-}
-
 /// Whether a DPC or a work item is queued, or a timer's tick is reached.
 fn any_open_work<A: Agent>(parts: &Parts<A>) -> bool
     ensures { result ≡ nat_lt 0 (length (ready.open_work parts.now)) }
 {
     for id in 0..parts.tree().len() {
-        if is_open_work(parts, ObjectId(id)) {
+        if parts.is_open_work(ObjectId(id)) {
             return true;
         }
     }

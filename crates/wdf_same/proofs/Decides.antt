@@ -1,9 +1,9 @@
 -- The test of two values decides whether they are one.
-use Rattle.std.proofs.Common.{◌≡◌, rules, true, false, Bool, ap}
+use Rattle.std.proofs.Common.{◌≡◌, rules}
 use Rattle.std.specs.Bool.{Decides}
 use Rattle.wdf_base.specs.declared.value.Value.{Value}
 use Rattle.wdf_base.specs.declared.value.Value.TheVariants as value
-use Rattle.wdf_base.specs.Same.{same_value, same_handle, same_status}
+use Rattle.wdf_base.specs.Same.{same_value}
 
 pub value_decides : (a b : Value) → Decides (same_value a b) (a ≡ b)
 value_decides (value.Num a) (value.Num b) = search rules

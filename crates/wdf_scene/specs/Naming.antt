@@ -1,5 +1,5 @@
 -- The names that a scene declares.
-use Rattle.std.specs.Prelude.{ℕ, Bool, true, false, ◌&&◌, nat_le, List, length, Option, Some, None, IsTrue}
+use Rattle.std.specs.Prelude.{ℕ, Bool, true, ◌&&◌, nat_le, List, length, Option, Some, None, IsTrue}
 use Rattle.std.specs.List.{list_all}
 use Rattle.wdf_base.specs.Resolved.{is_name}
 use Rattle.wdf_scene.specs.declared.line.NumberedLine.{NumberedLine}

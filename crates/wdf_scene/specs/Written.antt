@@ -1,5 +1,5 @@
 -- Lines with their expressions as trees, and the scene that numbers the nodes of these trees.
-use Rattle.std.specs.Prelude.{◌≡◌, Bool, true, false, ℕ, suc, ◌+◌, ◌&&◌, nat_le, max, List, [], ◌∷◌, ◌++◌, map, Option, Some, None, IsTrue, ◌⊎◌}
+use Rattle.std.specs.Prelude.{◌≡◌, Bool, true, false, ℕ, suc, ◌+◌, ◌&&◌, nat_le, max, List, [], ◌∷◌, ◌++◌, map, Option, IsTrue, ◌⊎◌}
 use Rattle.std.specs.List.{list_all}
 use Rattle.std.specs.Option.{is_none}
 use Rattle.wdf_base.specs.declared.call.CallKind.{CallKind}

@@ -1,17 +1,14 @@
 -- A call is read from its arguments.
-use Rattle.std.proofs.Common.{◌≡◌, ℕ, ◌+◌, Bool, true, false, List, [], ◌∷◌, ◌++◌, length, Option, Some, None, refl, ap, ◌∙◌, sym, subst, arith, append_assoc, length-append}
+use Rattle.std.proofs.Common.{◌≡◌, ℕ, ◌+◌, Bool, true, false, List, [], ◌∷◌, ◌++◌, length, Option, Some, None, refl, ap, ◌∙◌, sym, subst, length-append}
 use Rattle.wdf_base.specs.Calls.{signature_of}
 use Rattle.wdf_base.specs.declared.call.CallKind.{CallKind}
-use Rattle.wdf_base.specs.declared.signature.Sort.{Sort}
 use Rattle.wdf_scene.specs.declared.line.SceneArg.{SceneArg}
-use Rattle.wdf_scene.specs.declared.line.SceneExpr.{SceneExpr}
-use Rattle.wdf_scene.specs.declared.line.SceneLine.{SceneLine}
 use Rattle.wdf_scene.specs.declared.line.SceneLine.TheVariants as line
 use Rattle.wdf_scene.specs.declared.scene.Scene.{Scene}
-use Rattle.wdf_scene.specs.Written.{Argument, Missing, Valued, OfClass, Written, Calling, argument_size, argument_nodes, numbered_argument, line_at, nodes_at}
+use Rattle.wdf_scene.specs.Written.{Argument, Missing, Written, Calling, argument_size, argument_nodes, numbered_argument, line_at}
 use Rattle.wdf_tokens.specs.declared.token.Token.{Token}
 use Rattle.wdf_scene_lines.specs.Reading.{ArgumentReading, NoArgument, ArgumentBefore, read_argument, first_read, second_read, third_read}
-use Rattle.wdf_scene_lines.specs.Building.{BuildsArgument, IsArgumentRead, BuildsLine, IsLineRead, with_nodes, next_node}
+use Rattle.wdf_scene_lines.specs.Building.{IsArgumentRead, BuildsLine, IsLineRead, with_nodes, next_node}
 use Rattle.wdf_scene_lines.proofs.TreeBuilding.{with_nodes_twice}
 
 length_argument : (a : Argument) → length (argument_nodes a) ≡ argument_size a

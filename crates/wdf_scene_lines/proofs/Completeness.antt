@@ -1,6 +1,5 @@
 -- A line of the language is read from the tokens that spell it.
-use Rattle.std.proofs.Common.{◌≡◌, ℕ, zero, suc, ◌≤◌, ◌<◌, max, Bool, true, false, cond, ◌&&◌, nat_le, List, [], ◌∷◌, drop, map, length, Option, Some, None, option_map, refl, ap, ◌∙◌, sym, subst, arith}
-use Rattle.std.specs.Prelude.{if◌then◌else◌}
+use Rattle.std.proofs.Common.{◌≡◌, ℕ, zero, suc, ◌≤◌, Bool, true, false, cond, ◌&&◌, nat_le, List, [], ◌∷◌, map, length, Option, Some, None, option_map, refl, ap, ◌∙◌, arith}
 use Rattle.std.specs.Option.{is_none}
 use Rattle.std.specs.List.{list_all}
 use Rattle.std.proofs.lemmas.Bool.{leb-true}
@@ -20,7 +19,6 @@ use Rattle.wdf_base.specs.declared.event.Ask.TheVariants as ask
 use Rattle.wdf_base.specs.declared.object.RequestForm.{RequestForm}
 use Rattle.wdf_base.specs.declared.script.ContextWord.{ContextWord}
 use Rattle.wdf_base.specs.declared.script.ContextWord.TheVariants as context
-use Rattle.wdf_base.specs.declared.script.Operator.{Operator}
 use Rattle.wdf_base.specs.declared.signature.Sort.{Sort}
 use Rattle.wdf_base.specs.declared.signature.Sort.TheVariants as sort
 use Rattle.wdf_base.specs.declared.value.Status.{Status}
@@ -37,7 +35,7 @@ use Rattle.wdf_scene.specs.declared.line.SceneLine.{SceneLine}
 use Rattle.wdf_scene.specs.declared.line.SceneLine.TheVariants as line
 use Rattle.wdf_scene.specs.declared.line.StatementHead.{StatementHead}
 use Rattle.wdf_scene.specs.declared.line.StatementHead.TheVariants as head
-use Rattle.wdf_scene.specs.Written.{Atom, Number, Named, Literal, Context, Tree, Leaf, Node, Argument, Missing, Valued, OfClass, Written, Plain, Picked, Single, Calling, depth, is_proper_atom, is_proper, is_argument, are_arguments, is_filled, is_plain_form, is_written}
+use Rattle.wdf_scene.specs.Written.{Atom, Number, Named, Literal, Context, Tree, Leaf, Node, Argument, Missing, Valued, OfClass, Written, Plain, Picked, Single, Calling, depth, is_proper_atom, is_proper, is_argument, is_filled, is_plain_form, is_written}
 use Rattle.wdf_tokens.specs.declared.keyword.Keyword.{Keyword}
 use Rattle.wdf_tokens.specs.declared.keyword.Keyword.TheVariants as keyword
 use Rattle.wdf_tokens.specs.declared.token.Token.{Token}
@@ -47,8 +45,8 @@ use Rattle.wdf_tokens.specs.Named.{callback_named, call_named, status_named, con
 use Rattle.wdf_tokens.specs.WordTokens.{word, callback_token}
 use Rattle.wdf_tokens.proofs.KeywordLaws.{keyword_back}
 use Rattle.wdf_scene_lines.specs.Forms as forms
-use Rattle.wdf_scene_lines.specs.Reading.{word_atom, atom_of, first_token, atom_in, operator_in, name_in, is_open, is_close, TreeReading, NoTree, TreeBefore, leaf_read, closed_read, right_read, operator_read, left_read, read_tree, whole_tree, single_of, single_after, read_front, ArgumentReading, NoArgument, ArgumentBefore, valued_read, read_argument, third_read, second_read, first_read, call_front_of, call_front, call_after, is_number, number_in, picks_written, read_by, read_known, read_written}
-use Rattle.wdf_scene_lines.specs.Spelling.{atom_token, tree_then, argument_then, into_then, head_then, action_then, plain_tokens, written_tokens}
+use Rattle.wdf_scene_lines.specs.Reading.{word_atom, atom_of, first_token, is_open, TreeBefore, leaf_read, right_read, left_read, read_tree, whole_tree, single_of, ArgumentBefore, valued_read, read_argument, third_read, second_read, first_read, call_front_of, call_front, call_after, is_number, number_in, picks_written, read_by, read_known, read_written}
+use Rattle.wdf_scene_lines.specs.Spelling.{atom_token, tree_then, argument_then, head_then, action_then, plain_tokens, written_tokens}
 
 status_back : (x : Status) → status_named (status_word x) ≡ Some x
 unfolding status_named

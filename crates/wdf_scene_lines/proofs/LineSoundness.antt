@@ -1,5 +1,5 @@
 -- A line that is read is spelled by its tokens.
-use Rattle.std.proofs.Common.{◌≡◌, ℕ, zero, suc, ◌≤◌, max, Bool, true, false, ◌&&◌, nat_le, List, [], ◌∷◌, drop, map, Option, Some, None, option_map, cond, refl, ap, ◌∙◌, sym, subst, arith}
+use Rattle.std.proofs.Common.{◌≡◌, ℕ, zero, suc, ◌≤◌, Bool, true, false, ◌&&◌, nat_le, List, [], ◌∷◌, drop, map, Option, Some, None, option_map, cond, refl, ap, ◌∙◌, subst, arith}
 use Rattle.std.proofs.lemmas.Bool.{le-leb}
 use Rattle.std.specs.Option.{is_none}
 use Rattle.std.specs.List.{list_all}
@@ -10,30 +10,28 @@ use Rattle.wdf_base.specs.declared.signature.Sort.{Sort}
 use Rattle.wdf_base.specs.declared.signature.Sort.TheVariants as sort
 use Rattle.wdf_base.specs.declared.value.Status.{Status}
 use Rattle.wdf_base.specs.Calls.{signature_of}
-use Rattle.wdf_base.specs.Words.{status_word, status_of, call_word}
+use Rattle.wdf_base.specs.Words.{status_word, call_word}
 use Rattle.wdf_base.proofs.WordLaws.{status-only, call-only}
-use Rattle.wdf_base.proofs.Tests.{both, both_left, both_right}
+use Rattle.wdf_base.proofs.Tests.{both, both_right}
 use Rattle.wdf_scene.proofs.WordLaws.{context-only}
 use Rattle.wdf_scene.specs.Words.{context_word, context_of}
 use Rattle.wdf_scene.specs.declared.line.SceneLine.{SceneLine}
 use Rattle.wdf_scene.specs.declared.line.StatementHead.{StatementHead}
 use Rattle.wdf_scene.specs.declared.line.StatementHead.TheVariants as head
-use Rattle.wdf_scene.specs.Written.{Atom, Number, Named, Literal, Context, Tree, Leaf, Node, Argument, Missing, Valued, OfClass, Written, Plain, Picked, Single, Calling, depth, is_proper_atom, is_proper, is_argument, are_arguments, is_filled, is_written}
+use Rattle.wdf_scene.specs.Written.{Atom, Number, Named, Tree, Leaf, Node, Argument, Missing, Valued, OfClass, Written, Plain, Picked, Single, Calling, depth, is_proper_atom, is_proper, is_argument, is_written}
 use Rattle.wdf_tokens.specs.declared.keyword.Keyword.{Keyword}
 use Rattle.wdf_tokens.specs.declared.keyword.Keyword.TheVariants as keyword
 use Rattle.wdf_tokens.specs.declared.token.Token.{Token}
 use Rattle.wdf_tokens.specs.declared.token.Token.TheVariants as token
-use Rattle.wdf_tokens.specs.Keywords.{keyword_word, keyword_of}
+use Rattle.wdf_tokens.specs.Keywords.{keyword_of}
 use Rattle.wdf_tokens.specs.Named.{call_named, status_named, context_named}
 use Rattle.wdf_tokens.specs.WordTokens.{word}
 use Rattle.wdf_tokens.specs.WellFormed.{is_token}
 use Rattle.wdf_tokens.proofs.KeywordLaws.{keyword_only}
-use Rattle.wdf_scene_lines.specs.declared.statements.Front.{Front}
-use Rattle.wdf_scene_lines.specs.declared.statements.CallFront.{CallFront}
 use Rattle.wdf_scene_lines.specs.Forms.{plain_line}
-use Rattle.wdf_scene_lines.specs.Reading.{word_atom, atom_of, first_token, atom_in, operator_in, name_in, is_open, is_close, TreeReading, NoTree, TreeBefore, leaf_read, closed_read, right_read, operator_read, left_read, read_tree, whole_tree, let_front, put_front, read_front, single_of, single_after, ArgumentReading, NoArgument, ArgumentBefore, valued_read, class_read, read_argument, third_read, second_read, first_read, call_front_of, call_front, call_after, is_number, number_in, picks_written, read_unpicked, read_by, read_known, read_written}
+use Rattle.wdf_scene_lines.specs.Reading.{word_atom, atom_of, first_token, atom_in, operator_in, name_in, is_close, TreeReading, NoTree, TreeBefore, leaf_read, closed_read, right_read, operator_read, left_read, read_tree, whole_tree, let_front, put_front, single_of, single_after, ArgumentReading, NoArgument, ArgumentBefore, valued_read, class_read, read_argument, third_read, second_read, first_read, call_front_of, call_front, call_after, is_number, number_in, picks_written, read_by, read_known, read_written}
 use Rattle.wdf_scene_lines.specs.Spelling.{atom_token, tree_then, argument_then, into_then, head_then, written_tokens}
-use Rattle.wdf_scene_lines.proofs.FormSoundness.{Spells, plain_line_spelled}
+use Rattle.wdf_scene_lines.proofs.FormSoundness.{plain_line_spelled}
 
 status_only : (x : Status) (w : List ℕ) → status_named w ≡ Some x → status_word x ≡ w
 unfolding status_named

@@ -1,10 +1,10 @@
 -- An expression in parentheses is read from its parts.
-use Rattle.std.proofs.Common.{◌≡◌, ℕ, zero, suc, ◌+◌, ◌-◌, ◌<◌, Bool, true, false, List, [], ◌∷◌, ◌++◌, length, drop, Option, Some, None, refl, ap, ◌∙◌, sym, subst, arith, append_assoc, length-append}
+use Rattle.std.proofs.Common.{◌≡◌, ℕ, zero, suc, ◌+◌, ◌-◌, ◌<◌, true, false, List, [], ◌∷◌, ◌++◌, length, drop, Some, refl, ap, ◌∙◌, sym, subst, arith, append_assoc, length-append}
 use Rattle.wdf_base.specs.declared.script.Operator.{Operator}
 use Rattle.wdf_scene.specs.declared.line.SceneExpr.{SceneExpr}
 use Rattle.wdf_scene.specs.declared.line.SceneExpr.TheVariants as expr
 use Rattle.wdf_scene.specs.declared.scene.Scene.{Scene}
-use Rattle.wdf_scene.specs.Written.{Tree, Leaf, Node, atom_node, size, root, nodes}
+use Rattle.wdf_scene.specs.Written.{Tree, Leaf, Node, size, root, nodes}
 use Rattle.wdf_tokens.specs.declared.token.Token.{Token}
 use Rattle.wdf_scene_lines.specs.Reading.{TreeReading, NoTree, TreeBefore, first_token, operator_in, is_open, is_close, atom_in, leaf_read, closed_read, right_read, operator_read, left_read, read_tree}
 use Rattle.wdf_scene_lines.specs.Building.{BuildsTree, IsTreeRead, with_nodes, next_node}

@@ -1,11 +1,11 @@
 -- What a reading function leaves in the scene that it fills.
-use Rattle.std.specs.Prelude.{◌≡◌, ℕ, ◌+◌, List, [], ◌∷◌, ◌++◌, length, Option, Some, None, map}
+use Rattle.std.specs.Prelude.{◌≡◌, ℕ, ◌+◌, List, [], ◌++◌, length, Option, Some, None, map}
 use Rattle.wdf_scene.specs.declared.line.SceneArg.{SceneArg}
 use Rattle.wdf_scene.specs.declared.line.SceneExpr.{SceneExpr}
 use Rattle.wdf_scene.specs.declared.line.SceneLine.{SceneLine}
 use Rattle.wdf_scene.specs.declared.line.SceneLine.TheVariants as line
 use Rattle.wdf_scene.specs.declared.scene.Scene.{Scene}
-use Rattle.wdf_scene.specs.Written.{Atom, Tree, Argument, Written, atom_node, root, nodes, numbered_argument, argument_nodes, line_at, nodes_at, picks_in}
+use Rattle.wdf_scene.specs.Written.{Tree, Argument, Written, root, nodes, numbered_argument, argument_nodes, line_at, nodes_at, picks_in}
 use Rattle.wdf_tokens.specs.declared.token.Token.{Token}
 use Rattle.wdf_scene_lines.specs.declared.statements.Form.{Form}
 use Rattle.wdf_scene_lines.specs.declared.statements.Form.TheVariants as form

@@ -1,5 +1,5 @@
 -- The line forms without expressions: what the tokens after the first word are.
-use Rattle.std.specs.Prelude.{ℕ, List, [], ◌∷◌, Bool, true, false, Option, Some, None, option_map}
+use Rattle.std.specs.Prelude.{ℕ, List, [], ◌∷◌, true, false, Option, Some, None, option_map}
 use Rattle.wdf_base.specs.declared.call.Callback.{Callback}
 use Rattle.wdf_base.specs.declared.declared.DeferredKind.{DeferredKind}
 use Rattle.wdf_base.specs.declared.declared.DispatchKind.TheVariants as dispatch

@@ -3,7 +3,6 @@ use Rattle.std.specs.Prelude.{ℕ, zero, suc, Bool, true, false, List, [], ◌�
 use Rattle.std.specs.List.{list_all}
 use Rattle.wdf_base.specs.declared.call.CallKind.{CallKind}
 use Rattle.wdf_base.specs.declared.script.ContextWord.{ContextWord}
-use Rattle.wdf_base.specs.declared.signature.Signature.{Signature}
 use Rattle.wdf_base.specs.declared.signature.Sort.{Sort}
 use Rattle.wdf_base.specs.declared.signature.Sort.TheVariants as sort
 use Rattle.wdf_base.specs.declared.script.Operator.{Operator}

@@ -1,5 +1,5 @@
 -- One event more in a walk over the pieces of a band.
-use Rattle.std.proofs.Common.{◌≡◌, ℕ, ◌+◌, ◌<◌, ◌≤◌, List, [], ◌∷◌, ◌++◌, length, get_or, drop, append_assoc, arith, Option, Some, None}
+use Rattle.std.proofs.Common.{◌≡◌, ℕ, ◌+◌, ◌<◌, ◌≤◌, List, [], ◌∷◌, ◌++◌, length, get_or, drop, append_assoc, arith, Some, None}
 use Rattle.std.proofs.lemmas.List.{drop_more, drop_all}
 use Rattle.wdf_base.specs.declared.event.Event.{Event}
 use Rattle.wdf_spans.specs.declared.bands.BandOf.{BandOf}

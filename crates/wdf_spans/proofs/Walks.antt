@@ -1,5 +1,5 @@
 -- One event more in a walk over the events of a run.
-use Rattle.std.proofs.Common.{◌≡◌, ℕ, ◌+◌, ◌<◌, List, [], ◌∷◌, ◌++◌, length, get_or, take, refl, sym, ap, ◌∙◌, append_assoc, arith, zero-add, option_to_list, map, append-nil, Option, Some, None}
+use Rattle.std.proofs.Common.{◌≡◌, ℕ, ◌+◌, ◌<◌, List, [], ◌∷◌, ◌++◌, length, get_or, take, sym, append_assoc, arith, option_to_list, map, append-nil, Option, Some, None}
 use Rattle.std.proofs.lemmas.List.{take_more, length-take-le, map-append}
 use Rattle.wdf_base.specs.declared.event.Event.{Event}
 use Rattle.wdf_spans.specs.declared.begun.Begun.{Begun}

@@ -1,5 +1,5 @@
 -- What was sent down and isn't done, as contracts see it, and how the fields of a line say it.
-use Rattle.std.specs.Prelude.{ℕ, ◌+◌, ◌≤◌, ◌<◌, ◌≡◌, ◌⊎◌, Bool, true, false, ◌==◌, not, ◌&&◌, List, [], ◌∷◌, length, Some, slice_get, slice_set, vec_capacity}
+use Rattle.std.specs.Prelude.{ℕ, ◌≤◌, ◌<◌, ◌≡◌, ◌⊎◌, Bool, true, false, ◌==◌, not, ◌&&◌, List, [], ◌∷◌, length, Some, slice_get, slice_set, vec_capacity}
 use Rattle.wdf_model.specs.declared.stack.Descent.{Descent}
 use Rattle.wdf_model.specs.declared.stack.Descent.TheVariants as descent
 use Rattle.wdf_model.specs.declared.stack.Forwarded.{Forwarded}

@@ -1,7 +1,6 @@
 -- Where in a line the requests may be that have some key: a request that was sent, the request at the lower device, or the number
 -- of an arrival.
 use Rattle.std.specs.Prelude.{if◌then◌else◌, ℕ, ◌+◌, ◌≤◌, ◌<◌, ◌≡◌, nat_lt, min, max, List, Option, Some, None, slice_get}
-use Rattle.wdf_base.specs.declared.ids.ObjectId.{ObjectId}
 use Rattle.wdf_model.specs.Tables.{entry, put}
 use Rattle.wdf_model.specs.declared.room.TheConstants.{OBJECTS}
 use Rattle.wdf_model.specs.declared.stack.Descent.{Descent}

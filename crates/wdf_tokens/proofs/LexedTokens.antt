@@ -1,6 +1,6 @@
 -- Each token that is read has a spelling.
-use Rattle.std.proofs.Common.{◌≡◌, ℕ, zero, suc, ◌-◌, ◌^◌, ◌<◌, Bool, true, false, cond, ◌&&◌, ◌||◌, nat_le, nat_lt, List, [], ◌∷◌, length, Option, Some, None, option_map, Result, Ok, Err, refl, ap, ◌∙◌, sym, subst, arith}
-use Rattle.std.specs.Prelude.{◌==◌, if◌then◌else◌, slice_index}
+use Rattle.std.proofs.Common.{◌≡◌, ℕ, zero, suc, ◌-◌, ◌^◌, ◌<◌, Bool, true, false, cond, ◌&&◌, nat_le, nat_lt, List, [], ◌∷◌, length, Option, Some, None, option_map, Result, Ok, Err, refl, ap, ◌∙◌, sym, subst}
+use Rattle.std.specs.Prelude.{◌==◌, slice_index}
 use Rattle.std.specs.Char.{is_ascii_digit, is_ascii_alphabetic}
 use Rattle.std.specs.List.{list_all, take_while}
 use Rattle.std.proofs.lemmas.Bool.{leb-false, lt-ltb}
@@ -9,7 +9,7 @@ use Rattle.wdf_base.specs.declared.call.Callback.{Callback}
 use Rattle.wdf_base.specs.declared.script.Operator.{Operator}
 use Rattle.wdf_base.specs.Words.{callback_word, callback_of}
 use Rattle.wdf_base.proofs.WordLaws.{callback-only}
-use Rattle.wdf_base.proofs.Tests.{both, both_left, both_right}
+use Rattle.wdf_base.proofs.Tests.{both}
 use Rattle.wdf_text.specs.Decimals.{number_after}
 use Rattle.wdf_tokens.specs.declared.lexer.Content.{Content}
 use Rattle.wdf_tokens.specs.declared.lexer.Content.TheVariants.{Whole, Blank, Foreign, TooLarge}
@@ -18,7 +18,7 @@ use Rattle.wdf_tokens.specs.declared.lexer.TokenFault.{TokenFault}
 use Rattle.wdf_tokens.specs.declared.lexer.TokenFault.TheVariants as fault
 use Rattle.wdf_tokens.specs.declared.token.Token.{Token}
 use Rattle.wdf_tokens.specs.declared.token.Token.TheVariants as token
-use Rattle.wdf_tokens.specs.Tokens.{is_blank, is_plain, is_name_byte, piece, piece_of, digits_piece, letters_piece, number_content, name_content, long_name, long_content, operator_of, mark_token, pair_token, marks_piece, token_at, with_token, tokens_from, line_reading}
+use Rattle.wdf_tokens.specs.Tokens.{is_blank, is_plain, is_name_byte, piece_of, digits_piece, letters_piece, number_content, long_name, long_content, operator_of, mark_token, pair_token, marks_piece, token_at, with_token, tokens_from, line_reading}
 use Rattle.wdf_tokens.specs.WellFormed.{is_word, is_token}
 
 -- a token of a piece has a spelling

@@ -1,6 +1,6 @@
 -- Tokens that are spelled are read again.
-use Rattle.std.proofs.Common.{◌≡◌, ℕ, zero, suc, ◌+◌, ◌-◌, ◌^◌, ◌<◌, ◌≤◌, Bool, true, false, cond, not, ◌&&◌, ◌||◌, nat_le, nat_lt, List, [], ◌∷◌, ◌++◌, length, drop, decimal, Option, Some, None, Result, Ok, Err, refl, ap, ◌∙◌, sym, subst, arith, append_assoc, append-nil}
-use Rattle.std.specs.Prelude.{◌==◌, if◌then◌else◌, slice_index}
+use Rattle.std.proofs.Common.{◌≡◌, ℕ, suc, ◌+◌, ◌-◌, ◌^◌, ◌<◌, ◌≤◌, Bool, true, false, cond, not, ◌&&◌, ◌||◌, nat_le, nat_lt, List, [], ◌∷◌, ◌++◌, length, drop, decimal, Some, Ok, Err, refl, ap, ◌∙◌, sym, arith, append_assoc}
+use Rattle.std.specs.Prelude.{◌==◌, if◌then◌else◌}
 use Rattle.std.specs.Char.{is_ascii_digit, is_ascii_alphabetic}
 use Rattle.std.specs.List.{list_all, take_while}
 use Rattle.std.proofs.lemmas.Bool.{leb-true, ltb-true, lt-leb, le-leb, ne_eqb, eqb-true}
@@ -16,15 +16,12 @@ use Rattle.wdf_base.proofs.Tests.{both, both_left, both_right, not_true, second}
 use Rattle.wdf_scene.specs.Words.{operator_word}
 use Rattle.wdf_text.specs.Decimals.{small_number}
 use Rattle.wdf_text.proofs.ReadBack.{decimal_digits, small_number-decimal}
-use Rattle.wdf_tokens.specs.declared.lexer.Content.{Content}
-use Rattle.wdf_tokens.specs.declared.lexer.Content.TheVariants.{Whole, Blank}
-use Rattle.wdf_tokens.specs.declared.lexer.Piece.{Piece}
-use Rattle.wdf_tokens.specs.declared.lexer.TokenFault.{TokenFault}
+use Rattle.wdf_tokens.specs.declared.lexer.Content.TheVariants.{Whole}
 use Rattle.wdf_tokens.specs.declared.lexer.TokenFault.TheVariants as fault
 use Rattle.wdf_tokens.specs.declared.token.Token.{Token}
 use Rattle.wdf_tokens.specs.declared.token.Token.TheVariants as token
 use Rattle.wdf_tokens.specs.TokenTexts.{token_text, rest_text, line_text, rest_bytes, line_bytes}
-use Rattle.wdf_tokens.specs.Tokens.{is_blank, is_plain, is_name_byte, is_inside, piece, piece_of, digits_piece, letters_piece, number_content, name_content, long_name, long_content, marks_piece, token_at, with_token, tokens_from, line_reading, lines_of, with_byte}
+use Rattle.wdf_tokens.specs.Tokens.{is_blank, is_plain, is_name_byte, is_inside, piece, piece_of, digits_piece, letters_piece, number_content, name_content, long_name, long_content, with_token, tokens_from, line_reading, lines_of, with_byte}
 use Rattle.wdf_tokens.specs.WellFormed.{is_word, is_token}
 use Rattle.wdf_tokens.proofs.LineReading.{tokens_from_head}
 

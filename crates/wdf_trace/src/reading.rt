@@ -72,18 +72,20 @@ impl<'a> Words<'a> {
     pub fn of(text: &'a [u8]) -> Words<'a>
         ensures { result ≡ words text.now }
     {
-        let (a, rest) = cut(text);
-        let (b, rest) = cut(rest);
-        let (c, rest) = cut(rest);
-        let (d, rest) = cut(rest);
-        let (e, rest) = cut(rest);
-        let (f, rest) = cut(rest);
-        let (g, rest) = cut(rest);
-        let (h, rest) = cut(rest);
-        let (i, _rest) = cut(rest);
+        let (first, rest) = cut(text);
+        let (second, rest) = cut(rest);
+        let (third, rest) = cut(rest);
+        let (fourth, rest) = cut(rest);
+        let (fifth, rest) = cut(rest);
+        let (sixth, rest) = cut(rest);
+        let (seventh, rest) = cut(rest);
+        let (eighth, rest) = cut(rest);
+        let (ninth, _rest) = cut(rest);
         Words {
             text,
-            first: [a, b, c, d, e, f, g, h, i],
+            first: [
+                first, second, third, fourth, fifth, sixth, seventh, eighth, ninth,
+            ],
         }
     }
 

@@ -1,15 +1,13 @@
 -- The set of the objects that count against the limit: after a change of one object, and what it answers with another set.
-use Rattle.std.proofs.Common.{ℕ, ◌≡◌, ◌⊎◌, ◌+◌, ◌-◌, ◌<◌, ◌≤◌, not, Bool, true, false, ◌&&◌, List, [], ◌∷◌, ◌++◌, Option, Some, None, MatchOption, length, slice_set, replicate, refl, ap, sym, ◌∙◌, inl, inr, get_or-set_same, get_or-set_other, length-set, arith}
+use Rattle.std.proofs.Common.{ℕ, ◌≡◌, ◌⊎◌, ◌+◌, ◌-◌, ◌<◌, ◌≤◌, Bool, false, ◌&&◌, List, [], ◌∷◌, ◌++◌, Option, Some, None, MatchOption, length, slice_set, replicate, refl, ap, sym, ◌∙◌, inl, inr, get_or-set_same, get_or-set_other, length-set, arith}
 use Rattle.std.specs.Prelude.{slice_index_or}
-use Rattle.std.proofs.lemmas.Bool.{cases_eq, cases_lt}
+use Rattle.std.proofs.lemmas.Bool.{cases_eq}
 use Rattle.std.proofs.lemmas.List.{length-replicate}
-use Rattle.wdf_base.specs.Lives.{is_cleaned, is_gone}
-use Rattle.wdf_base.specs.Same.{same_kind}
 use Rattle.wdf_base.specs.declared.object.Kind.TheVariants as kind
 use Rattle.wdf_model.specs.Tables.{entry}
 use Rattle.wdf_model.specs.declared.entries.Node.{Node}
 use Rattle.wdf_model.specs.declared.room.TheConstants.{OBJECTS}
-use Rattle.wdf_model.specs.parts.Tree.{Tree, counts, gone}
+use Rattle.wdf_model.specs.parts.Tree.{counts, gone}
 use Rattle.wdf_model.proofs.Maps.{entry_before, entry_last}
 use Rattle.wdf_sets.specs.Members.{is_in}
 use Rattle.wdf_sets.specs.Nexts.{IsNext, NoneFrom}

@@ -1,8 +1,7 @@
 -- Tries of a range: none, one more, and those of two ranges that follow one another.
-use Rattle.std.proofs.Common.{ℕ, zero, suc, ◌≡◌, ◌+◌, ◌-◌, ◌<◌, ◌≤◌, ◌⊎◌, inl, inr, List, [], ◌∷◌, ◌++◌, length, Some, None, slice_get, refl, sym, ap, ◌∙◌, arith, sum_by, length-append}
-use Rattle.std.proofs.lemmas.List.Sums.{sum_by_push, sum_by-append}
+use Rattle.std.proofs.Common.{ℕ, zero, suc, ◌≡◌, ◌+◌, ◌-◌, ◌⊎◌, inl, inr, List, [], ◌∷◌, ◌++◌, length, Some, slice_get, refl, sym, ap, ◌∙◌, arith, length-append}
+use Rattle.std.proofs.lemmas.List.Sums.{sum_by_push}
 use Rattle.wdf_table.specs.declared.row.Row.{Row}
-use Rattle.wdf_table.specs.declared.tally.Tally.{Tally}
 use Rattle.wdf_table.specs.Tables.{IsTallyOf}
 use Rattle.wdf_tries.specs.declared.tried.Case.{Case}
 use Rattle.wdf_tries.specs.Tries.{IsTryOf, AreTries, events_of, IsHuntOf}

@@ -1,6 +1,5 @@
 -- Where nothing is moved, a seed runs the case's scene.
 use Rattle.std.proofs.Common.{ℕ, ◌≡◌, ap, ◌∙◌, sym}
-use Rattle.wdf_base.specs.declared.plan.Plan.{Plan}
 use Rattle.wdf_plan.specs.Plans.{plan_of}
 use Rattle.wdf_jitter.specs.Moved.{moved_scene}
 use Rattle.wdf_jitter.proofs.Unmoved.{scene_stays}

@@ -1,5 +1,5 @@
 -- From what becomes of an input's parts to what becomes of the whole.
-use Rattle.std.proofs.Common.{ℕ, List, [], length, ◌≡◌, ◌≤◌, ◌∙◌, sym, append-nil, arith, Option, Some, None, Result, Ok, Err, IfOk, IfErr, inl, inr}
+use Rattle.std.proofs.Common.{ℕ, List, ◌≡◌, Result, Ok, Err, IfOk, IfErr, inl, inr}
 use Rattle.wdf_base.specs.declared.plan.Plan.{Plan}
 use Rattle.wdf_base.specs.Resolved.{IsResolved}
 use Rattle.wdf_parse.proofs.ProperNames.{stands_scene, stands_properly}

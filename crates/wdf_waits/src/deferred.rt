@@ -1,6 +1,5 @@
 //! The lines of deferred work: queued DPCs and work items, and timers whose tick is reached.
 ghost use Rattle.std.specs.Prelude.{◌≡◌};
-ghost use Rattle.wdf_model.specs.rules.Ready as ready;
 ghost use Rattle.wdf_model.specs.rules.Waits as waits;
 
 use wdf_base::{Agent, Callback, Cause, Irql, ObjectId, OpenThing, WaitLine};
@@ -10,15 +9,6 @@ use wdf_causes::{
 use wdf_parts::Parts;
 use wdf_plan_index::IndexedPlan;
 use wdf_starts::level_fits;
-
-/// Whether an object is a queued DPC or work item, or a timer whose tick is reached.
-pub(crate) fn is_open_work<A: Agent>(parts: &Parts<A>, o: ObjectId) -> bool
-    ensures { result ≡ ready.is_open_work parts.now o.0 }
-{
-    parts.dpcs().is_dpc_queued(o)
-        || parts.work_items().is_work_queued(o)
-        || parts.timers().timer_due(o, parts.now())
-}
 
 /// Why a DPC doesn't start: the lock that it needs is held, or that of the first in its processor's
 /// list, or the processor's level is too high. (KMDF)

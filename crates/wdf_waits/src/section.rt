@@ -4,7 +4,7 @@ ghost use Rattle.wdf_waits.specs.declared.section.Section.TheVariants as section
 ghost use Rattle.wdf_model.specs.rules.Posts.{due_of};
 ghost use Rattle.wdf_waits.specs.Lines as lines;
 
-use crate::deferred::{deferred_line, is_open_work};
+use crate::deferred::deferred_line;
 use crate::devices::device_line;
 use crate::frames::frame_line;
 use crate::objects::{is_leaving, object_line};
@@ -61,7 +61,7 @@ pub(crate) fn has_line<A: Agent>(
         Section::Requests => has_request_line(&parts.requests().request(o)),
         Section::Devices => is_open_device(plan, parts, o),
         Section::Objects => is_leaving(parts, o),
-        Section::Work => is_open_work(parts, o),
+        Section::Work => parts.is_open_work(o),
         Section::Asking => asked_line(parts).is_some(),
     }
 }
@@ -118,7 +118,7 @@ fn leaving_line<A: Agent>(plan: &IndexedPlan, parts: &Parts<A>, o: ObjectId) -> 
 fn work_line<A: Agent>(plan: &IndexedPlan, parts: &Parts<A>, o: ObjectId) -> Option<WaitLine>
     ensures { result ≡ lines.line_in plan.now A.meaning parts.now section.Work o.0 }
 {
-    if is_open_work(parts, o) {
+    if parts.is_open_work(o) {
         Some(deferred_line(plan, parts, o))
     } else {
         None

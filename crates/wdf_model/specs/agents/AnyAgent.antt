@@ -1,5 +1,5 @@
 -- The agents of a run, by number: the Plug and Play manager, the apps, the devices, the targets. (own)
-use Rattle.std.specs.Prelude.{if◌then◌else◌, ℕ, ◌-◌, ◌==◌, fold, Option, Some, None}
+use Rattle.std.specs.Prelude.{if◌then◌else◌, ℕ, ◌==◌, fold, Option, Some, None}
 use Rattle.wdf_base.specs.Meaning.{Meaning}
 use Rattle.wdf_base.specs.declared.plan.Plan.{Plan}
 use Rattle.wdf_base.specs.declared.event.Post.{Post}

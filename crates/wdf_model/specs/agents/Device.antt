@@ -1,5 +1,5 @@
 -- A device: its registers, the level lines of its interrupts, and its actions, as a fold of the events of the run. (own)
-use Rattle.std.specs.Prelude.{if◌then◌else◌, ℕ, ◌+◌, ◌-◌, Bool, true, false, ◌==◌, nat_lt, nat_le, ◌&&◌, List, [], ◌∷◌, map, find, fold, Option, Some, None, option_map, unwrap_or, slice_index_or}
+use Rattle.std.specs.Prelude.{if◌then◌else◌, ℕ, ◌-◌, Bool, true, false, ◌==◌, nat_lt, nat_le, ◌&&◌, List, [], ◌∷◌, map, find, fold, Option, Some, None, option_map, unwrap_or, slice_index_or}
 use Rattle.std.specs.List.{filter_map}
 use Rattle.wdf_base.specs.declared.plan.Plan.{Plan}
 use Rattle.wdf_base.specs.declared.event.Access.{Access}

@@ -1,5 +1,5 @@
 -- The I/O targets: which are stopped, and what was sent to each.
-use Rattle.std.specs.Prelude.{if◌then◌else◌, ℕ, Bool, true, false, ◌==◌, nat_lt, ◌&&◌, not, List, [], ◌∷◌, length, map, filter, find, Option, Some, None, option_and_then}
+use Rattle.std.specs.Prelude.{if◌then◌else◌, ℕ, Bool, true, false, ◌==◌, nat_lt, ◌&&◌, not, List, [], length, map, filter, find, Option, Some, None, option_and_then}
 use Rattle.std.specs.List.{flat_map}
 use Rattle.wdf_base.specs.declared.plan.Plan.{Plan}
 use Rattle.wdf_base.specs.declared.value.Status.{Status}

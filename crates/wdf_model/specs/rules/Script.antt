@@ -1,6 +1,6 @@
 -- Scripts: what the next statement of a frame does, with its expressions evaluated.
 -- The statements, the expressions and their limits are this project's. (own)
-use Rattle.std.specs.Prelude.{if◌then◌else◌, ℕ, ◌+◌, ◌-◌, ◌*◌, ◌/◌, ◌%◌, ◌^◌, Bool, true, false, ◌==◌, nat_lt, nat_le, not, List, [], ◌∷◌, ◌++◌, take, Option, Some, None, unwrap_or, option_map, slice_get, slice_index_or, bit_and, bit_or, bit_xor, zero, suc, ◌&&◌}
+use Rattle.std.specs.Prelude.{if◌then◌else◌, ℕ, ◌+◌, ◌-◌, ◌*◌, ◌/◌, ◌%◌, ◌^◌, ◌==◌, nat_lt, nat_le, not, Option, Some, None, unwrap_or, option_map, slice_get, slice_index_or, bit_and, bit_or, bit_xor, zero, suc, ◌&&◌}
 use Rattle.wdf_base.specs.declared.plan.Plan.{Plan}
 use Rattle.wdf_base.specs.declared.ids.Handle.{Handle}
 use Rattle.wdf_base.specs.declared.value.Value.{Value}

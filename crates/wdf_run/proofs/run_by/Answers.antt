@@ -1,5 +1,5 @@
 -- The event that is applied is the one that the source picks for this turn.
-use Rattle.std.proofs.Common.{◌≡◌, ◌<◌, ◌%◌, length, refl, ap, ◌∙◌}
+use Rattle.std.proofs.Common.{◌<◌, ◌%◌, length, refl, ap, ◌∙◌}
 use Rattle.wdf_model.specs.rules.Ready.{ready}
 use Rattle.wdf_run.proofs.Order.{run_opens, run_goes_on}
 use Rattle.wdf_run.proofs.run_by.Goals as goal

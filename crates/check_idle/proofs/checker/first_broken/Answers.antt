@@ -1,5 +1,5 @@
 -- One event more: the time after it, what is kept of it, and a place at which the law isn't broken.
-use Rattle.std.proofs.Common.{◌≡◌, ◌+◌, refl, ap, sym, ◌∙◌, arith}
+use Rattle.std.proofs.Common.{◌+◌, refl, ap, ◌∙◌, arith}
 use Rattle.check_past.specs.Past.{Read}
 use Rattle.check_idle.proofs.Firsts.{breaks_as, none_more, time_next, time_none, watches_next}
 use Rattle.check_idle.proofs.Words.{all_open}

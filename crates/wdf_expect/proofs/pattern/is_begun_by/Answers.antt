@@ -1,5 +1,5 @@
 -- The word at this place decides, or those after it.
-use Rattle.std.proofs.Common.{◌≡◌, ◌+◌, arith}
+use Rattle.std.proofs.Common.{arith}
 use Rattle.wdf_trace.specs.Reading.{words}
 use Rattle.wdf_expect.proofs.Begun.{begun_at, stops, goes_on}
 use Rattle.wdf_expect.proofs.pattern.is_begun_by.Goals as goal

@@ -1,5 +1,5 @@
 -- A step more.
-use Rattle.std.proofs.Common.{arith, sym, ◌∙◌}
+use Rattle.std.proofs.Common.{sym, ◌∙◌}
 use Rattle.wdf_explain.proofs.Rounds.{steps_more}
 use Rattle.wdf_explain.proofs.circle.push_steps.Goals as goal
 

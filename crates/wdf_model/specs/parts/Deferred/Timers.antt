@@ -1,5 +1,5 @@
 -- The queued timers. (KMDF)
-use Rattle.std.specs.Prelude.{if◌then◌else◌, ℕ, ◌+◌, min, Bool, false, ◌==◌, nat_le, nat_lt, not, List, [], ◌∷◌, map, filter, find, Option, Some, None, is_some}
+use Rattle.std.specs.Prelude.{if◌then◌else◌, ℕ, ◌+◌, min, Bool, false, ◌==◌, nat_le, nat_lt, not, List, [], map, filter, find, Option, Some, None, is_some}
 use Rattle.std.specs.List.{list_any}
 use Rattle.wdf_model.specs.Tables.{least, in_order_by}
 use Rattle.wdf_model.specs.declared.entries.Timed.{Timed}

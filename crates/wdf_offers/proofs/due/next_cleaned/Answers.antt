@@ -1,5 +1,4 @@
 -- None is past the room for objects.
-use Rattle.std.proofs.Common.{ℕ, Bool}
 use Rattle.wdf_base.specs.Lives.{is_cleaned}
 use Rattle.wdf_model.specs.parts.Tree.{life_of}
 use Rattle.wdf_offers.proofs.CountedStarts.{counted_next, counted_none}

@@ -1,5 +1,4 @@
 -- None is past the room for objects.
-use Rattle.std.proofs.Common.{ℕ, Bool}
 use Rattle.wdf_model.specs.parts.Tree.{may_clean}
 use Rattle.wdf_offers.proofs.CountedStarts.{counted_next, counted_none}
 use Rattle.wdf_offers.proofs.due.next_turn.Goals as goal

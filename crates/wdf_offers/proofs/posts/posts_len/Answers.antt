@@ -2,7 +2,6 @@
 use Rattle.std.proofs.Common.{sym, ◌∙◌, ◌<◌, ◌≤◌, length, arith}
 use Rattle.wdf_model.specs.declared.enums.Group.TheVariants as group
 use Rattle.wdf_offers.specs.Search.{offered_from}
-use Rattle.wdf_offers.proofs.Passing.{nothing_passed}
 use Rattle.wdf_offers.proofs.AgentsPassed.{post_counts, post_passes, posts_end}
 use Rattle.wdf_offers.proofs.posts.posts_len.Goals as goal
 use Rattle.wdf_offers.proofs.posts.posts_len.Goals.{then-may_come, else-may_come}

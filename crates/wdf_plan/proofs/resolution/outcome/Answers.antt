@@ -1,4 +1,3 @@
-use Rattle.std.proofs.Common.{◌∙◌, sym}
 use Rattle.wdf_plan.proofs.resolution.outcome.Goals as goal
 
 pub declared-requires : goal.declared-requires

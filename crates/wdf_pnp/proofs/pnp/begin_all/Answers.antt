@@ -1,5 +1,5 @@
 -- One device more begins anew, and all.
-use Rattle.std.proofs.Common.{◌≡◌, ◌+◌, ◌<◌, length, ap, ◌∙◌, sym, arith}
+use Rattle.std.proofs.Common.{◌<◌, length, ap, ◌∙◌, arith}
 use Rattle.std.proofs.lemmas.List.{get_or_default}
 use Rattle.wdf_declared.proofs.Ids.{anew_all, anew_more, anew_none}
 use Rattle.wdf_model.specs.parts.Pnp.{Sequence, no_sequence}

@@ -1,5 +1,5 @@
 -- One line less is left.
-use Rattle.std.proofs.Common.{inr, arith}
+use Rattle.std.proofs.Common.{inr}
 use Rattle.wdf_replay.proofs.AfterEvents.{some_wait, waits_left, waits_rest}
 use Rattle.wdf_replay.proofs.told.wait_told.Goals as goal
 

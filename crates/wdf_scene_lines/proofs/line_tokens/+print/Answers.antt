@@ -1,4 +1,4 @@
-use Rattle.std.proofs.Common.{refl, arith, ◌∙◌, ap, ◌<◌, ◌≡◌, sym}
+use Rattle.std.proofs.Common.{arith, ◌<◌}
 use Rattle.wdf_scene_lines.proofs.ExprTokens.{expr_past, expr_flat, expr_deep}
 use Rattle.wdf_scene_lines.proofs.line_tokens.+print.Goals as goal
 

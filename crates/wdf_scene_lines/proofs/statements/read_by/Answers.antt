@@ -1,4 +1,3 @@
-use Rattle.std.proofs.Common.{rules}
 use Rattle.wdf_scene_lines.proofs.FormBuilding.{read_by_unpicked, form_of_line}
 use Rattle.wdf_scene_lines.proofs.statements.read_by.Goals as goal
 

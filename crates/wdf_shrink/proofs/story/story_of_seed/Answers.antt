@@ -1,5 +1,5 @@
 -- The words of the seed are the first story, the search leaves one, and its picks up to the run's last event are one too.
-use Rattle.std.proofs.Common.{◌≡◌, Global, List, Vec, ℕ, ap, ◌∙◌}
+use Rattle.std.proofs.Common.{◌≡◌, Global, Vec, ℕ, ap, ◌∙◌}
 use Rattle.wdf_plan.specs.Plans.{plan_of}
 use Rattle.wdf_run.specs.Seeds.{seed_words}
 use Rattle.wdf_shrink.proofs.Stories.{own_story, story_if}

@@ -1,5 +1,5 @@
 -- The kinds are compared, and the numbers of events.
-use Rattle.std.proofs.Common.{◌≡◌, sym, ◌∙◌}
+use Rattle.std.proofs.Common.{sym, ◌∙◌}
 use Rattle.wdf_shrink.proofs.Stories.{ends_story}
 use Rattle.wdf_shrink.proofs.told.is_story.Goals as goal
 

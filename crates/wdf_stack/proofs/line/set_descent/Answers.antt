@@ -1,5 +1,5 @@
 -- The request at the place is the first that waits.
-use Rattle.std.proofs.Common.{Some, slice_get, refl, sym, ap, ◌∙◌}
+use Rattle.std.proofs.Common.{slice_get, refl}
 use Rattle.std.proofs.lemmas.Option.{slice_get-get_or}
 use Rattle.wdf_stack.proofs.Finding.{arrived_at_first}
 use Rattle.wdf_stack.proofs.line.set_descent.Goals as goal

@@ -1,5 +1,5 @@
 -- One target more begins anew, and all.
-use Rattle.std.proofs.Common.{◌≡◌, suc, ◌+◌, ◌<◌, length, ap, ◌∙◌, sym, arith}
+use Rattle.std.proofs.Common.{suc, ◌<◌, length, ap, ◌∙◌, sym, arith}
 use Rattle.std.proofs.lemmas.List.{get_or_default}
 use Rattle.std.proofs.lemmas.List.FromFn.{get_or-map-range_with_len}
 use Rattle.wdf_declared.proofs.Ids.{anew_all, anew_more, anew_none}

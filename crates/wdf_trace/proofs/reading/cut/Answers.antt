@@ -1,4 +1,4 @@
-use Rattle.std.proofs.Common.{◌≡◌, ◌∙◌, ◌+◌, ℕ, List, [], ◌∷◌, take, drop, refl, sym, ap}
+use Rattle.std.proofs.Common.{◌∙◌, ◌+◌, [], take, drop, refl, sym, ap}
 use Rattle.wdf_trace.specs.Reading.{word, words}
 use Rattle.wdf_trace.proofs.FirstWords.{words_cut, words_whole, rest_from, no_word, later_word}
 use Rattle.wdf_trace.proofs.reading.cut.Goals as goal

@@ -1,7 +1,7 @@
 -- The try of each seed is added.
-use Rattle.std.proofs.Common.{◌≡◌, ◌+◌, ◌*◌, ◌^◌, ◌≤◌, ◌∙◌, ap, refl, arith}
+use Rattle.std.proofs.Common.{◌∙◌, ap, arith}
 use Rattle.wdf_table.specs.Tables.{all_seeds}
-use Rattle.wdf_tries.proofs.Ranges.{none_so_far, one_more, hunt_of}
+use Rattle.wdf_tries.proofs.Ranges.{none_so_far, one_more}
 use Rattle.wdf_tries.proofs.range.hunt_range.Goals as goal
 
 pub loop-k-init : goal.loop-k-init

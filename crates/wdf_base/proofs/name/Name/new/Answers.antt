@@ -1,4 +1,3 @@
-use Rattle.std.proofs.Common.{◌≡◌}
 use Rattle.wdf_base.proofs.Padding.{copied_IsPadded}
 use Rattle.wdf_base.proofs.name.Name.new.Goals as goal
 

@@ -1,5 +1,5 @@
 -- The first event may come, or none may.
-use Rattle.std.proofs.Common.{refl, sym, ◌∙◌}
+use Rattle.std.proofs.Common.{refl, sym}
 use Rattle.wdf_model.specs.rules.Ready.{ready}
 use Rattle.wdf_core.proofs.Journal.{none_first}
 use Rattle.wdf_core.proofs.machine.Core.apply_first.Goals as goal

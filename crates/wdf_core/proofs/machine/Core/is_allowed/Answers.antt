@@ -1,9 +1,4 @@
 -- The test is that of the state at hand, which is that of a run.
-use Rattle.std.proofs.Common.{◌↔◌, subst}
-use Rattle.std.specs.Prelude.{IsTrue}
-use Rattle.wdf_model.specs.State.{State}
-use Rattle.wdf_model.specs.rules.Ready.{allowed}
-use Rattle.law_machine_places.specs.Placed.{IsAmong}
 use Rattle.wdf_core.proofs.Following.{agree_now, owned_now}
 use Rattle.wdf_core.proofs.Journal.{agents_small}
 use Rattle.wdf_core.proofs.machine.Core.is_allowed.Goals as goal

@@ -1,6 +1,5 @@
 -- A byte more of the text is escaped.
-use Rattle.std.proofs.Common.{◌≡◌, ◌++◌, ◌+◌, append_assoc, arith, take}
-use Rattle.wdf_page.specs.Escaped.{entity_of, escaped}
+use Rattle.std.proofs.Common.{append_assoc, arith}
 use Rattle.wdf_page.proofs.Escapes.{escaped_more}
 use Rattle.wdf_page.proofs.page.Page.text.Goals as goal
 

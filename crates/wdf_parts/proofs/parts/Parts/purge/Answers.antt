@@ -1,5 +1,5 @@
 -- The front is withdrawn, and what waits after it is left.
-use Rattle.std.proofs.Common.{◌≡◌, ◌≤◌, ◌==◌, ℕ, Some, None, count_by, fold, option_map, refl, ap, sym, ◌∙◌, arith}
+use Rattle.std.proofs.Common.{◌≡◌, ◌≤◌, ◌==◌, Some, None, count_by, fold, option_map, refl, ap, sym, ◌∙◌, arith}
 use Rattle.wdf_base.specs.declared.ids.ObjectId.{ObjectId}
 use Rattle.wdf_model.specs.parts.Queues.{front, waiting_in}
 use Rattle.wdf_model.specs.rules.Deeds.{withdraw}

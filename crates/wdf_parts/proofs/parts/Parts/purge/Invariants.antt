@@ -1,9 +1,8 @@
 -- What waits still is withdrawn next; each waits once, and is there.
-use Rattle.std.proofs.Common.{◌≡◌, ◌≤◌, ◌<◌, ◌==◌, ℕ, count_by, fold, length, All}
+use Rattle.std.proofs.Common.{◌≡◌, ◌≤◌, ◌<◌, ◌==◌, ℕ, count_by, fold, length}
 use Rattle.wdf_model.specs.parts.Queues.{waiting_in}
 use Rattle.wdf_model.specs.declared.deed.Deed.TheVariants.{PurgeQueue}
 use Rattle.wdf_model.specs.rules.Deeds.{do_deed, withdraw}
-use Rattle.wdf_model.specs.rules.Room.{IsRequest}
 use Rattle.wdf_parts.proofs.parts.Parts.purge.Given as goal
 
 abbrev pub invariant-waiting : goal.invariant-waiting

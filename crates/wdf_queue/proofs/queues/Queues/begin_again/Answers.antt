@@ -1,5 +1,5 @@
 -- The fields are as long as there are ids, and hold nothing.
-use Rattle.std.proofs.Common.{◌≡◌, ◌+◌, ◌≤◌, length, refl, ap, sym, ◌∙◌, arith}
+use Rattle.std.proofs.Common.{◌≡◌, ◌+◌, length, refl, ap, ◌∙◌, arith}
 use Rattle.std.proofs.lemmas.List.{length-replicate}
 use Rattle.wdf_ilist.specs.Family.{Family}
 use Rattle.wdf_model.specs.parts.Queues.{Queues}

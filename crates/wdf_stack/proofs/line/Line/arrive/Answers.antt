@@ -1,6 +1,5 @@
 -- Where nothing waits, nothing has an arrival.
-use Rattle.std.proofs.Common.{◌≤◌, length, sym, ap, subst, ◌∙◌, arith}
-use Rattle.wdf_model.specs.declared.stack.Forwarded.{Forwarded}
+use Rattle.std.proofs.Common.{◌≤◌, length, ap, subst, ◌∙◌, arith}
 use Rattle.wdf_model.specs.agents.Connector.{arrived_below, first_arrived, is_waiting}
 use Rattle.wdf_stack.specs.Line.{NoneBefore, Row}
 use Rattle.wdf_stack.proofs.Finding.{nothing_waits}

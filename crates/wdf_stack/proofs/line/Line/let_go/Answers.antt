@@ -1,5 +1,5 @@
 -- The others come nearer, as far as they were behind, and the tables still lead to them.
-use Rattle.std.proofs.Common.{◌≡◌, length, filter, sym, ap, ◌∙◌, arith}
+use Rattle.std.proofs.Common.{◌≡◌, length, filter, ap, ◌∙◌, arith}
 use Rattle.std.proofs.lemmas.List.Sums.{count_by-le-length, length-filter}
 use Rattle.wdf_model.specs.agents.Connector.{is_waiting}
 use Rattle.wdf_stack.specs.Line.{has_post, is_in_front, stays}

@@ -1,5 +1,5 @@
 -- The request is at the places that the table says, and the line stays in order.
-use Rattle.std.proofs.Common.{◌≡◌, ◌-◌, List, length, min, sym, ap, ◌∙◌, arith}
+use Rattle.std.proofs.Common.{◌≡◌, ◌-◌, List, length, min, ap, ◌∙◌, arith}
 use Rattle.std.proofs.lemmas.List.{length-map}
 use Rattle.wdf_model.specs.agents.Connector.{passed_on_one, is_waiting}
 use Rattle.wdf_model.specs.declared.stack.Forwarded.{Forwarded}

@@ -4,7 +4,7 @@ use Rattle.wdf_model.specs.declared.stack.Descent.TheVariants as descent
 use Rattle.wdf_model.specs.declared.stack.Forwarded.{Forwarded}
 use Rattle.wdf_model.specs.agents.Connector.{is_waiting}
 use Rattle.wdf_stack.specs.Line.{Row, has_post}
-use Rattle.wdf_stack.specs.Spans.{IsWithin, lower_key, number_key, request_key}
+use Rattle.wdf_stack.specs.Spans.{IsWithin, lower_key, number_key}
 use Rattle.wdf_stack.proofs.Placing.{placed_pushed, placed_sent}
 use Rattle.wdf_stack.proofs.Walking.{none_pushed}
 use Rattle.wdf_stack.proofs.line.Line.push.Goals as goal

@@ -1,8 +1,8 @@
 -- The request at the place has come further, and the tables lead to it.
-use Rattle.std.proofs.Common.{◌≡◌, ◌+◌, ◌<◌, length, refl, sym, ap, subst, ◌∙◌, arith}
+use Rattle.std.proofs.Common.{◌+◌, ◌<◌, length, refl, sym, ap, subst, ◌∙◌, arith}
 use Rattle.wdf_model.specs.agents.Connector.{is_waiting}
 use Rattle.wdf_model.proofs.Maps.{as_long}
-use Rattle.wdf_stack.specs.Line.{IsWaitingAt, NoneBefore, Row, has_post}
+use Rattle.wdf_stack.specs.Line.{NoneBefore, Row, has_post}
 use Rattle.wdf_stack.specs.Spans.{lower_in, lower_key, number_in, number_key}
 use Rattle.wdf_stack.proofs.Placing.{placed_still, placed_there}
 use Rattle.wdf_stack.proofs.Walking.{none_there}

@@ -1,7 +1,7 @@
 -- Both sets have the objects that are cleaned up, and that count.
-use Rattle.std.proofs.Common.{◌≡◌, ◌&&◌, ap, subst, ◌∙◌, MatchOption}
+use Rattle.std.proofs.Common.{◌&&◌, ap, subst, ◌∙◌, MatchOption}
 use Rattle.wdf_base.specs.Lives.{is_cleaned}
-use Rattle.wdf_model.specs.parts.Tree.{counts, life_of, node_of}
+use Rattle.wdf_model.specs.parts.Tree.{life_of}
 use Rattle.wdf_sets.specs.Members.{is_in}
 use Rattle.wdf_sets.specs.Nexts.{IsNext, NoneFrom}
 use Rattle.wdf_tree.specs.Inside.{tree_in}

@@ -1,6 +1,6 @@
 -- Both sets have the objects whose cleanup may come, and that count.
-use Rattle.std.proofs.Common.{◌≡◌, ◌&&◌, ap, subst, ◌∙◌, MatchOption}
-use Rattle.wdf_model.specs.parts.Tree.{counts, may_clean, node_of}
+use Rattle.std.proofs.Common.{◌&&◌, ap, subst, ◌∙◌, MatchOption}
+use Rattle.wdf_model.specs.parts.Tree.{may_clean}
 use Rattle.wdf_sets.specs.Members.{is_in}
 use Rattle.wdf_sets.specs.Nexts.{IsNext, NoneFrom}
 use Rattle.wdf_tree.specs.Inside.{tree_in}
