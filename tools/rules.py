@@ -4,7 +4,7 @@
 tools/rules.txt has a rule a line, with bars between its parts: its words, and the definitions that state it, with commas
 between them. Then, where the script doesn't find what shows most, its laws and its wrong bodies, by their names (a law whose name
 two crates have as CRATE::NAME); `-` says that it has none of its own. And then its code, where that which the script finds isn't
-what shows the rule: functions, as CRATE::NAME. A definition is a name of crates/wdf_model, or of the crate in brackets after it, or of the file there (a
+what shows the rule: functions, as CRATE::NAME, or FILE::NAME where several files have it. A definition is a name of crates/wdf_model, or of the crate in brackets after it, or of the file there (a
 path below crates/); other brackets name a row, and the link leads to the first line of the definition that has its first word.
 Each name has to exist, and one that several files of its crate have needs its file. The script adds the functions whose contracts cite a definition (code), and where no laws or wrong bodies are given, the
 laws over it (functions without a body in the crates whose names begin with law_) and the wrong bodies inside the code. It adds
@@ -218,9 +218,10 @@ class Found:
         return (name, Place(found[0], None)) if len(found) == 1 else None
 
     def function(self, name):
-        """The function with this name, `crate::name` or `name` alone, with its file, or None where none or more than one has it.
-        A law comes before others with its name."""
-        found = [one for one in self.functions.get(name.split("::")[-1], []) if "::" not in name or one[0] == name]
+        """The function with this name, `crate::name`, `file::name` or `name` alone, with its file, or None where none or more than
+        one has it. A law comes before others with its name."""
+        where, _, last = name.rpartition("::")
+        found = [one for one in self.functions.get(last, []) if where in ("", one[0].split("::")[0], str(one[1].path.relative_to(CRATES)))]
         found = [one for one in found if one[0].startswith(LAWS)] or found
         return found[0] if len(found) == 1 else None
 

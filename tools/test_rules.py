@@ -102,7 +102,7 @@ impl Queue {
         most
     }
 
-    fn asks_not(&self) -> u32 {
+    fn takes(&self) -> u32 {
         7
     }
 }
@@ -117,7 +117,7 @@ a queue waits | waits (wdf_model/specs/Queues.antt) | - | -
 one of two definitions | takes, waits (wdf_model/specs/Queues.antt) | - | -
 a row of a definition, and a deed | do_deed (Put), Put | - | -
 what is edited elsewhere | takes | - | other_front
-its code is named | waits (wdf_model/specs/Others.antt) | - | front_is_zero, other_front | asks, wdf_part::waits
+its code is named | waits (wdf_model/specs/Others.antt) | - | front_is_zero, other_front | wdf_part/src/other.rt::takes, wdf_part::waits
 """
 MODEL_FILE, PART_FILE, OTHER_FILE = "../crates/wdf_model/specs/Queues.antt", "../crates/wdf_part/src/lib.rt", "../crates/wdf_part/src/other.rt"
 WANTED = [
@@ -132,7 +132,7 @@ WANTED = [
     f"| [`wdf_part::put_one`]({PART_FILE}#L42) |  |  |",
     f"| what is edited elsewhere | [`takes`]({MODEL_FILE}#L4) | [`wdf_part::takes`]({PART_FILE}#L5); edited: [`wdf_part::MANY`]({OTHER_FILE}#L1), "
     f"[`wdf_part::asks`]({OTHER_FILE}#L8) |  | [`other_front`](../crates/wdf_part/wrong/other_front.edit) |",
-    f"| its code is named | [`waits`](../crates/wdf_model/specs/Others.antt#L1) | [`wdf_part::asks`]({OTHER_FILE}#L8), [`wdf_part::waits`]({PART_FILE}#L31) "
+    f"| its code is named | [`waits`](../crates/wdf_model/specs/Others.antt#L1) | [`wdf_part::takes`]({OTHER_FILE}#L14), [`wdf_part::waits`]({PART_FILE}#L31) "
     "|  | [`front_is_zero`](../crates/wdf_part/must-fail/front_is_zero.edit), [`other_front`](../crates/wdf_part/wrong/other_front.edit) |",
 ]
 # Rules that don't name the one wrong body.
@@ -145,6 +145,7 @@ REFUSED = [
     ("no such law | takes | puts_once", "there is no law puts_once"),
     ("no such wrong body | takes | - | front_is_one", "there is no wrong body front_is_one"),
     ("no such code | takes | - | - | wdf_part::puts", "there is no function wdf_part::puts"),
+    ("which of two | takes | - | - | wdf_part::takes", "there is no function wdf_part::takes"),
     ("one part too many | takes | - | - | takes | -", "can't be read: one part too many | takes | - | - | takes | -"),
 ]
 
