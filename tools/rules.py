@@ -8,7 +8,7 @@ what shows the rule: functions, as CRATE::NAME, or FILE::NAME where several file
 path below crates/); other brackets name a row, and the link leads to the first line of the definition that has its first word.
 Each name has to exist, and one that several files of its crate have needs its file. The script adds the functions whose contracts cite a definition (code), and where no laws or wrong bodies are given, the
 laws over it (functions without a body in the crates whose names begin with law_) and the wrong bodies inside the code. It adds
-the function, or the constant, that a shown wrong body edits in a file of which nothing is shown. Some rule has to name each wrong body. A contract cites a definition where its file imports that name from the definition's crate,
+the functions and constants that a shown wrong body changes, where they aren't shown. Some rule has to name each wrong body. A contract cites a definition where its file imports that name from the definition's crate,
 or says it after the name of a module of that crate; where the definition's file is given, from that file. One cites a deed where
 it says it after `Deed`.
 """
@@ -38,7 +38,7 @@ plans, traces, the program, threads, containers, pictures. In a row:
 
 - **definition**: what the rule is. [How to read a definition](MACHINE.md#how-to-read-a-definition) explains the signs and letters.
 - **code**: functions whose contracts name the definition: first those of its name, most of which are said to be the definition.
-  After `edited` stands what a wrong body of the row changes in files of which nothing is shown.
+  After `edited` stand the others in which a wrong body of the row lies.
 - **law**: a statement that is proved of all runs, or of all states, and that the rule is for, or that rests on it. A few are of worked
   cases or of whole tables, as their comments say.
 - **wrong body**: an edit of the code that the prover has to refuse. The gate tries those in `must-fail/`, `tools/wrong_bodies.py`
@@ -188,7 +188,7 @@ class Found:
         for edit in sorted([*folder.glob("must-fail/*.edit"), *folder.glob("wrong/*.edit")]):
             self.wrong.setdefault(edit.stem, []).append(edit)
             for item, place in self.changes(folder, edit):
-                self.changed.setdefault(edit, {})[f"{crate}::{item}"] = place
+                self.changed.setdefault(edit, []).append((f"{crate}::{item}", place))
                 self.edits.setdefault(f"{crate}::{item}", []).append(edit)
         for path in sources(crate, ".rt"):
             names, modules = imports_of(path.read_text())
@@ -288,9 +288,8 @@ def code_of(definitions, few=3):
 
 
 def edited(changed, shown):
-    """What wrong bodies change in files of which nothing is shown, each function or constant once."""
-    files = {place.path for _, place in shown}
-    return list({key: place for items in changed for key, place in items.items() if place.path not in files}.items())
+    """What wrong bodies change and what isn't shown, each function or constant once."""
+    return list(dict.fromkeys(item for items in changed for item in items if item not in shown))
 
 
 def listed(items):
@@ -337,7 +336,7 @@ def row_of(rule, found, known, at, wrong):
         shown_edits = those_named(edits, found.wrong_body, "wrong body", at, wrong)
     if code is not None:
         shown_code = those_named(code, found.function, "function", at, wrong)
-    others = edited([found.changed.get(place.path, {}) for _, place in shown_edits[0]], shown_code[0] + shown_laws[0])
+    others = edited([found.changed.get(place.path, []) for _, place in shown_edits[0]], shown_code[0] + shown_laws[0])
     parts = [listed(shown_code[0]) + shown_code[1], f"edited: {listed(others)}" if others else ""]
     return f"| {words} | {', '.join(told)} | {'; '.join(filter(None, parts))} | {listed(shown_laws[0])}{shown_laws[1]} | {listed(shown_edits[0])}{shown_edits[1]} |"
 

@@ -122,7 +122,7 @@ its code is named | waits (wdf_model/specs/Others.antt) | - | front_is_zero, oth
 MODEL_FILE, PART_FILE, OTHER_FILE = "../crates/wdf_model/specs/Queues.antt", "../crates/wdf_part/src/lib.rt", "../crates/wdf_part/src/other.rt"
 WANTED = [
     f"| a queue gives its front | [`takes`]({MODEL_FILE}#L4) | [`wdf_part::takes`]({PART_FILE}#L5); edited: [`wdf_part::MANY`]({OTHER_FILE}#L1), "
-    f"[`wdf_part::asks`]({OTHER_FILE}#L8) | [`law_queue::takes_once`](../crates/law_queue/src/lib.rt#L3) "
+    f"[`wdf_part::asks`]({OTHER_FILE}#L8), [`wdf_part::also_takes`]({PART_FILE}#L19) | [`law_queue::takes_once`](../crates/law_queue/src/lib.rt#L3) "
     "| [`front_is_zero`](../crates/wdf_part/must-fail/front_is_zero.edit), [`other_front`](../crates/wdf_part/wrong/other_front.edit) |",
     f"| a queue drops | [`drops`]({MODEL_FILE}#L8) |  | [`law_other::drops_once`](../crates/law_other/src/lib.rt#L1) |  |",
     f"| its front is kept | [`Queue.front`]({MODEL_FILE}#L3) | edited: [`wdf_part::takes`]({PART_FILE}#L5) |  | [`front_is_zero`](../crates/wdf_part/must-fail/front_is_zero.edit) |",
@@ -131,8 +131,9 @@ WANTED = [
     f"| a row of a definition, and a deed | [`do_deed`](../crates/wdf_model/specs/Deeds.antt#L4) (Put), [`Put`](../crates/wdf_model/src/deed.rt#L2) "
     f"| [`wdf_part::put_one`]({PART_FILE}#L42) |  |  |",
     f"| what is edited elsewhere | [`takes`]({MODEL_FILE}#L4) | [`wdf_part::takes`]({PART_FILE}#L5); edited: [`wdf_part::MANY`]({OTHER_FILE}#L1), "
-    f"[`wdf_part::asks`]({OTHER_FILE}#L8) |  | [`other_front`](../crates/wdf_part/wrong/other_front.edit) |",
-    f"| its code is named | [`waits`](../crates/wdf_model/specs/Others.antt#L1) | [`wdf_part::takes`]({OTHER_FILE}#L14), [`wdf_part::waits`]({PART_FILE}#L31) "
+    f"[`wdf_part::asks`]({OTHER_FILE}#L8), [`wdf_part::also_takes`]({PART_FILE}#L19) |  | [`other_front`](../crates/wdf_part/wrong/other_front.edit) |",
+    f"| its code is named | [`waits`](../crates/wdf_model/specs/Others.antt#L1) | [`wdf_part::takes`]({OTHER_FILE}#L14), [`wdf_part::waits`]({PART_FILE}#L31); "
+    f"edited: [`wdf_part::takes`]({PART_FILE}#L5), [`wdf_part::MANY`]({OTHER_FILE}#L1), [`wdf_part::asks`]({OTHER_FILE}#L8), [`wdf_part::also_takes`]({PART_FILE}#L19) "
     "|  | [`front_is_zero`](../crates/wdf_part/must-fail/front_is_zero.edit), [`other_front`](../crates/wdf_part/wrong/other_front.edit) |",
 ]
 # Rules that don't name the one wrong body.
