@@ -32,7 +32,7 @@ use Rattle.wdf_model.specs.rules.Script.{REPEAT_LIMIT, SPEND_LIMIT, act_intent, 
 use Rattle.wdf_model.specs.rules.Starts.{shown}
 use Rattle.wdf_model.specs.rules.Steps.{event_of_frame, event_of_top, fault_event, intent_event, may, own_event, spends, view_of}
 use Rattle.wdf_model.proofs.Tests.{both_left, both_right}
-use Rattle.law_machine_places.proofs.Rows.{register_same}
+use Rattle.law_machine_counts.proofs.Sames.{register_same}
 
 -- ---- statements that read
 

@@ -82,6 +82,7 @@ use Rattle.law_lint.proofs.Flags.{AllAsked}
 use Rattle.law_lint.proofs.Owning.{From, Guarded, OwnAs, Stopping}
 use Rattle.law_lint.proofs.Starting.{begins_with, came_from, held_parts, origin_held, owned_held, stop_callback, stop_due, unasked}
 use Rattle.law_lint.proofs.Unsent.{none_there}
+use Rattle.law_machine_counts.proofs.Undone.{held_undone}
 
 -- ---- the script of a callback is one of that callback
 
@@ -173,14 +174,6 @@ cancel_got : (q : Request) (o : ℕ) → is_due q.info.mark ≡ true → same_id
 cancel_got q o d from s =
     let own : is_owned q.place ≡ true = s.armed (due_armed q.info.mark d).0 in
     record { undone = owned_undone q.place own; loose = due_loose q d; now = record { owned = own; off = refl; came = some_origin q.info.origin o from } }
-
-held_undone : (b : Bool) (p : Place) → held_at b p ≡ true → is_done p ≡ false
-held_undone b place.Owned h = refl
-held_undone b (place.Queued q) h = refl
-held_undone b (place.Returning q) h = refl
-held_undone b (place.Closing s) h = refl
-held_undone b (place.Sent t) h = refl
-held_undone b place.Done h = absurd (let z : ⊥ = cc in z)
 
 -- ---- a callback and its request
 

@@ -33,11 +33,11 @@ use Rattle.law_machine_base.specs.Fits.{fits}
 use Rattle.law_machine_base.proofs.KeptMoves.{front_queued}
 use Rattle.wdf_model.proofs.Counts.{one_or_two}
 use Rattle.wdf_model.proofs.Maps.{entry_map}
-use Rattle.law_machine_lives.proofs.Readers.{arrived_power}
 use Rattle.law_machine_lives.proofs.Stays.{asks_all, closed_power, returning_power, withdrawn_power}
 use Rattle.law_lint.proofs.Grips.{Apart}
 use Rattle.law_lint.proofs.Others.{Places}
 use Rattle.law_machine_counts.proofs.Releases.{holding_elsewhere, holding_here}
+use Rattle.law_machine_counts.proofs.Arrived.{arrived_power}
 
 -- what is so of request x is so after; of its acknowledgement only where `fresh` says so
 pub record FlagsKept (fresh : Bool) (P O : Power) (x : ℕ) : Type 0 where

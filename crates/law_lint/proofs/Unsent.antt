@@ -28,6 +28,7 @@ use Rattle.law_machine_base.specs.Fits.{all_fit, fits}
 use Rattle.law_machine_base.proofs.KeptByDeeds.{deed_keeps}
 use Rattle.law_machine_lives.proofs.Stays.{asks_all, gives_up, queues_closed, returns_closed, withdraws}
 use Rattle.law_lint.proofs.Others.{Places}
+use Rattle.law_machine_counts.proofs.Arrived.{arrived_targets}
 
 -- no target has a request
 abbrev pub NoneSent : Targets → Type 0
@@ -62,15 +63,11 @@ one_target T n f same none t = elim (one_or_two t n) [
   | inr x ↦ ap (λ (y : Target). y.sent) (entry_put_other no_target T.targets n t (f (the_target T n)) x) ∙ none t
 ]
 
-arrived : {A : Type 0} (S : State A) (device : ℕ) (info : RequestInfo) (p : Place) → (arrive_at S device info p).targets ≡ S.targets
-arrived S device info (place.Queued q) = refl
-arrived S device info _ = refl
-
 same_none : (T O : Targets) → O ≡ T → NoneSent T → NoneSent O
 same_none T O e none = subst NoneSent (sym e) none
 
 deed_none : {A : Type 0} (plan : Plan) (d : Deed) (S : State A) → fits plan d S ≡ true → Places S → is_sending d ≡ false → NoneSent S.targets → NoneSent (do_deed plan d S).targets
-deed_none plan (Arrive device info p) S f k off none = same_none S.targets _ (arrived S device.0 info p) none
+deed_none plan (Arrive device info p) S f k off none = same_none S.targets _ (arrived_targets S device.0 info p) none
 deed_none plan (AskDeletion o) S f k off none = same_none S.targets _ (asks_all (λ (T : State _). T.targets) (λ S T D W U. refl) (subtree S.tree o.0) S) none
 deed_none plan (Requeue r q) S f k off none = same_none S.targets _ (gives_up (λ (T : State _). T.targets) (λ S Q R P. refl) S r.0) none
 deed_none plan (Forward r q) S f k off none = same_none S.targets _ (gives_up (λ (T : State _). T.targets) (λ S Q R P. refl) S r.0) none

@@ -43,10 +43,11 @@ use Rattle.law_machine_lives.proofs.Framing.{Framing, framing_by, locks_by, off_
 use Rattle.law_machine_lives.proofs.Counted.{called, height, is_called, same_of_each}
 use Rattle.law_machine_lives.proofs.Leveled.{EarlyIfCalled, IsEarly, Leveled, awaited, object_at}
 use Rattle.law_machine_lives.proofs.QuietDeeds.{all_quiet, is_quiet_deed}
-use Rattle.law_machine_lives.proofs.Readers.{arrived_tree, tree_of}
+use Rattle.law_machine_lives.proofs.Readers.{tree_of}
 use Rattle.law_machine_lives.proofs.Lives.{early_there, noted_life}
 use Rattle.law_machine_lives.proofs.PartsStay.{cpus_stay, tree_stays}
 use Rattle.wdf_model.proofs.FrameCounts.{on}
+use Rattle.law_machine_counts.proofs.Arrived.{arrived_tree}
 
 abbrev pub LeveledIn : {A : Type 0} → Plan → State A → Type 0
 LeveledIn plan S = Leveled plan S.cpus S.locks S.tree

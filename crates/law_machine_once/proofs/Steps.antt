@@ -48,6 +48,7 @@ use Rattle.wdf_model.proofs.Sames.{callback_decides}
 use Rattle.wdf_base.specs.Stages.{is_for_interrupt}
 use Rattle.law_machine_once.specs.Owned.{IsStepOf, StepsOwned}
 use Rattle.law_machine_once.proofs.OnceEach.{each_of_all, each_image}
+use Rattle.law_machine_counts.proofs.Arrived.{arrived_pnp}
 
 -- ---- what the lists of steps are made of
 
@@ -236,15 +237,11 @@ one_changes plan Q d f keeps h = record {
 pnp_of : {A : Type 0} → State A → Pnp
 pnp_of S = S.pnp
 
-arrived : {A : Type 0} (S : State A) (device : ℕ) (info : RequestInfo) (p : Place) → (arrive_at S device info p).pnp ≡ S.pnp
-arrived S device info (place.Queued q) = refl
-arrived S device info _ = refl
-
 same_steps : (plan : Plan) (v w : Pnp) → w ≡ v → OwnSteps plan v → OwnSteps plan w
 same_steps plan v w e k = subst (OwnSteps plan) (sym e) k
 
 steps_by : {A : Type 0} (plan : Plan) (d : Deed) (S : State A) → OwnSteps plan S.pnp → OwnSteps plan (do_deed plan d S).pnp
-steps_by plan (Arrive device info p) S q = same_steps plan _ _ (arrived S device.0 info p) q
+steps_by plan (Arrive device info p) S q = same_steps plan _ _ (arrived_pnp S device.0 info p) q
 steps_by {A} plan (AskDeletion o) S q = same_steps plan _ _ (asks_all (λ (U : State A). U.pnp) (λ S T D W U. refl) (subtree S.tree o.0) S) q
 steps_by {A} plan (Requeue r p) S q = same_steps plan _ _ (gives_up (λ (U : State A). U.pnp) (λ S Q R P. refl) S r.0) q
 steps_by {A} plan (Forward r p) S q = same_steps plan _ _ (gives_up (λ (U : State A). U.pnp) (λ S Q R P. refl) S r.0) q

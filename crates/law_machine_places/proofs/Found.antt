@@ -48,7 +48,8 @@ use Rattle.law_stuck_causes.proofs.Members.{Has, at_of, has_flat, has_range}
 use Rattle.law_stuck_causes.proofs.Needs.{cpu_group, framework_group, placed_at}
 use Rattle.law_machine_places.specs.Placed.{device_of_step, has_place, has_queue, has_start, has_start_for, has_target, is_declared_id, is_step_on}
 use Rattle.law_machine_places.proofs.Members.{Passing, counted_at, found_at, has_image, has_kept}
-use Rattle.law_machine_places.proofs.Rows.{canceled_only, cancel_only, cleanup_only, completion_only, destroy_only, fault_same, id_is, isr_only, local_same, log_same, option_handle_is, pass_is, post_is, register_same, resume_only, some_same, spend_same, state_only, stop_only, timer_only, work_only}
+use Rattle.law_machine_places.proofs.Rows.{canceled_only, cancel_only, cleanup_only, completion_only, destroy_only, id_is, isr_only, post_is, resume_only, some_same, state_only, stop_only, timer_only, work_only}
+use Rattle.law_machine_counts.proofs.Sames.{fault_same, local_same, log_same, option_handle_is, pass_is, register_same, spend_same}
 
 -- ---- the groups of a processor
 

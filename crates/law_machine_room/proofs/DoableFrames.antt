@@ -44,6 +44,7 @@ use Rattle.law_machine_counts.proofs.StillDeeds.{all_still, is_still_deed, secon
 use Rattle.wdf_model.specs.rules.Room.{AreDoable}
 use Rattle.law_machine_room.proofs.DoableDeclared.{nearest_there}
 use Rattle.law_machine_room.proofs.Doable.{Fine, cpu_there, doable_after, locks_few, stack_there, top_few, top_there}
+use Rattle.law_machine_counts.proofs.Arrived.{arrived_cpus}
 
 -- ---- still deeds leave the map of frames alone
 
@@ -78,12 +79,8 @@ closes : {A : Type 0} (qs : List ℕ) (S : State A) → (fold close_queue S qs).
 closes [] S = refl
 closes (q ∷ qs) S = closes qs (close_queue S q)
 
-arrives : {A : Type 0} (S : State A) (device : ℕ) (info : RequestInfo) (p : Place) → (arrive_at S device info p).cpus ≡ S.cpus
-arrives S device info (place.Queued q) = refl
-arrives S device info _ = refl
-
 still_frames : {A : Type 0} (plan : Plan) (d : Deed) (S : State A) → is_still_deed d ≡ true → (do_deed plan d S).cpus.frames ≡ S.cpus.frames
-still_frames plan (Arrive device info p) S h = ap (λ c. c.frames) (arrives S device.0 info p)
+still_frames plan (Arrive device info p) S h = ap (λ c. c.frames) (arrived_cpus S device.0 info p)
 still_frames plan (AskDeletion o) S h = ap (λ c. c.frames) (asks_all (subtree S.tree o.0) S)
 still_frames plan (Requeue r q) S h = ap (λ c. c.frames) (gives_up S r.0)
 still_frames plan (Forward r q) S h = ap (λ c. c.frames) (gives_up S r.0)

@@ -48,24 +48,13 @@ use Rattle.wdf_model.specs.rules.Room.{AreDoable, IsRequest, IsThere, MayHold}
 use Rattle.law_machine_room.proofs.Doable.{Fine, clock_small, cpu_of_plan, doable_after, held_few, inside, locks_few, next_frame_few, next_frame_fresh, request_here, stack_there}
 use Rattle.law_machine_room.proofs.DoableFrames.{flagged, same_there}
 use Rattle.law_machine_counts.proofs.StepTable.{top_is}
+use Rattle.law_machine_counts.proofs.Undone.{held_undone, queued_undone, returning_undone}
 
 -- ---- places and ids
 
 pub sent_undone : (t : ℕ) (p : Place) → is_sent_to t p ≡ true → is_done p ≡ false
 sent_undone t place.Done h = absurd (let z : ⊥ = cc in z)
 sent_undone t _ h = refl
-
-pub held_undone : (forgotten : Bool) (p : Place) → held_at forgotten p ≡ true → is_done p ≡ false
-held_undone forgotten place.Done h = absurd (let z : ⊥ = cc in z)
-held_undone forgotten _ h = refl
-
-pub queued_undone : (q : ℕ) (p : Place) → is_queued_in q p ≡ true → is_done p ≡ false
-queued_undone q place.Done h = absurd (let z : ⊥ = cc in z)
-queued_undone q _ h = refl
-
-returning_undone : (q : ℕ) (p : Place) → is_returning_to q p ≡ true → is_done p ≡ false
-returning_undone q place.Done h = absurd (let z : ⊥ = cc in z)
-returning_undone q _ h = refl
 
 step_there : (found : Option Step) (s : Step) → same_option same_step found (Some s) ≡ true → is_some found ≡ true
 step_there None s h = h

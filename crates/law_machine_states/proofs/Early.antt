@@ -37,12 +37,13 @@ use Rattle.law_machine_lives.proofs.SoundRuns.{all_sound, known_place}
 use Rattle.law_machine_lives.proofs.Framing.{off_it, object_of}
 use Rattle.law_machine_lives.proofs.FramesStay.{Begins, FramesGoOn, frames_by}
 use Rattle.law_machine_states.specs.States.{FramesBeforeCleanup}
-use Rattle.law_machine_lives.proofs.Readers.{arrived_tree, tree_of}
+use Rattle.law_machine_lives.proofs.Readers.{tree_of}
 use Rattle.law_machine_lives.proofs.Lives.{live_early, noted_kept}
 use Rattle.law_machine_lives.proofs.PartsStay.{tree_stays}
 use Rattle.law_machine_states.proofs.Beginnings.{AllEarly, Early, event_early}
 use Rattle.law_machine_counts.proofs.StepsOverRuns.{none_yet}
 use Rattle.wdf_model.proofs.FrameCounts.{on}
+use Rattle.law_machine_counts.proofs.Arrived.{arrived_tree}
 
 -- ---- an object that isn't past its cleanup isn't after a deed, until its cleanup or its end
 

@@ -50,6 +50,7 @@ use Rattle.law_stack.proofs.Rising.{rises}
 use Rattle.law_stack.proofs.Sequences.{last_only}
 use Rattle.law_stack.proofs.Turning.{IsInOrder, last_turns, phase_of, phase_turns}
 use Rattle.law_machine_room.proofs.NamesOfSteps.{opening_read}
+use Rattle.law_machine_counts.proofs.Sames.{ask_decides}
 
 -- ---- what holds at each place
 
@@ -98,9 +99,6 @@ leads_opens plan = record {
 }
 
 -- ---- the post that comes
-
-ask_decides : (a b : Ask) → Decides (same_ask a b) (a ≡ b)
-ask_decides a b = search rules
 
 same_asked : (x : Post) (a : Ask) (n : Handle) → same_post x (post.Ask a n) ≡ true → x ≡ post.Ask a n
 same_asked (post.Ask b m) a n e =

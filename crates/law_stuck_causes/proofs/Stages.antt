@@ -55,6 +55,7 @@ use Rattle.law_stuck_causes.proofs.Endings.{at_rest}
 use Rattle.law_stuck_causes.proofs.EachLine.{OfLines, each_line}
 use Rattle.law_stuck_causes.proofs.Tops.{frame_named, held_now}
 use Rattle.law_stuck_causes.proofs.Needs.{front_none, framework_group, none_first, none_least, none_there, object_named, placed_at, some_or, unheld, free_hold}
+use Rattle.law_machine_counts.proofs.Sames.{stage_decides}
 
 -- ---- lists
 
@@ -74,9 +75,6 @@ each_one p [] h = refl
 each_one p (x ∷ xs) h = both (p x) (list_all p xs) (h x (inl refl)) (each_one p xs (λ y k. h y (inr k)))
 
 -- ---- stages
-
-stage_decides : (a b : Stage) → Decides (same_stage a b) (a ≡ b)
-stage_decides a b = search rules
 
 pub handle_itself : (i : Option Handle) → same_option same_handle i i ≡ true
 handle_itself None = refl

@@ -24,6 +24,7 @@ use Rattle.wdf_model.proofs.Maps.{entry_map}
 use Rattle.wdf_model.proofs.Counts.{done_asks, left_over, one_or_two}
 use Rattle.law_machine_base.proofs.KeptMoves.{target_elsewhere, target_here}
 use Rattle.law_machine_lives.proofs.Stays.{asks_all, gives_up, queues_closed, returns_closed, withdraws}
+use Rattle.law_machine_counts.proofs.Arrived.{arrived_targets}
 
 -- ---- the deeds that leave the targets alone
 
@@ -38,17 +39,13 @@ is_of_targets _ = false
 abbrev targets_in : {A : Type 0} → State A → Targets
 targets_in S = S.targets
 
-came : {A : Type 0} (S : State A) (device : ℕ) (info : RequestInfo) (p : Place) → (arrive_at S device info p).targets ≡ S.targets
-came S device info (place.Queued q) = refl
-came S device info _ = refl
-
 pub targets_stay : {A : Type 0} (plan : Plan) (d : Deed) (S : State A) → is_of_targets d ≡ false → (do_deed plan d S).targets ≡ S.targets
 targets_stay plan (SendRequest r t forget) S off = absurd (let z : ⊥ = cc in z)
 targets_stay plan (FinishSending r s) S off = absurd (let z : ⊥ = cc in z)
 targets_stay plan (ComeBack r) S off = absurd (let z : ⊥ = cc in z)
 targets_stay plan (StopTarget t) S off = absurd (let z : ⊥ = cc in z)
 targets_stay plan (StartTarget t) S off = absurd (let z : ⊥ = cc in z)
-targets_stay plan (Arrive device info p) S off = came S device.0 info p
+targets_stay plan (Arrive device info p) S off = arrived_targets S device.0 info p
 targets_stay plan (AskDeletion o) S off = asks_all targets_in (λ S T D W U. refl) (subtree S.tree o.0) S
 targets_stay plan (Requeue r q) S off = gives_up targets_in (λ S Q R P. refl) S r.0
 targets_stay plan (Forward r q) S off = gives_up targets_in (λ S Q R P. refl) S r.0

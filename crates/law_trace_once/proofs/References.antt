@@ -38,7 +38,7 @@ use Rattle.law_machine_base.specs.FactsOfEvents.{IsTick}
 use Rattle.law_machine_base.proofs.Follows.{follows}
 use Rattle.law_machine_lives.proofs.Keeping.{comes, deeds_keep as keep_deeds, each_place}
 use Rattle.law_machine_counts.proofs.Trees.{cleaned_there}
-use Rattle.law_machine_lives.proofs.Readers.{arrived_tree, tree_of}
+use Rattle.law_machine_lives.proofs.Readers.{tree_of}
 use Rattle.law_machine_lives.proofs.PartsStay.{tree_stays}
 use Rattle.law_trace_once.proofs.Lasting.{Past, deed_keeps}
 use Rattle.wdf_model.specs.rules.Steps.{did_deeds}
@@ -69,6 +69,7 @@ use Rattle.wdf_model.proofs.Tests.{either_false}
 use Rattle.wdf_laws.specs.Words.{times}
 use Rattle.wdf_laws.specs.Events.{argument_object, is_id, where_so}
 use Rattle.law_trace_once.proofs.Uncounted.{event_none, is_counting, is_counting_event, is_reference_call, none_counts}
+use Rattle.law_machine_counts.proofs.Arrived.{arrived_tree}
 
 -- ---- deeds that leave references alone
 

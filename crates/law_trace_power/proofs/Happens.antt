@@ -37,6 +37,7 @@ use Rattle.wdf_base.specs.declared.declared.InterruptInfo.{InterruptInfo}
 use Rattle.law_trace_power.specs.Steps.{is_for}
 use Rattle.law_trace_power.proofs.Holding.{EndShows, Holds, Silent, asks_for, begins_to, ends_to, nothing, unwatched, watch}
 use Rattle.law_trace_power.proofs.Passing.{enabling, may_pass_next, passes_to, power_by}
+use Rattle.law_machine_counts.proofs.Sames.{option_handle_is, stage_decides}
 
 -- what holds of each device, with each number for an interrupt
 abbrev pub AllHold : Plan → Pnp → List DevicePower → Interrupts → List Event → Type 0
@@ -51,21 +52,12 @@ hold_silent plan Q D I es e s h d i = nothing plan es e d i (sequence_of Q d) (e
 
 -- ---- steps that are found
 
-stage_decides : (a b : Stage) → Decides (same_stage a b) (a ≡ b)
-stage_decides a b = search rules
-
-handles_same : (a b : Option Handle) → same_option same_handle a b ≡ true → a ≡ b
-handles_same None None h = refl
-handles_same None (Some b) h = absurd (let z : ⊥ = cc in z)
-handles_same (Some a) None h = absurd (let z : ⊥ = cc in z)
-handles_same (Some a) (Some b) h = ap Some ((handle_decides a b).0 h)
-
 pub found_run : (ss : List Step) (c : Callback) (j : Option Handle) → same_option same_step (first_of_list ss) (Some (step.Run c j)) ≡ true → ss ≡ step.Run c j ∷ drop 1 ss
 found_run [] c j h = absurd (let z : ⊥ = cc in z)
 found_run (step.Pass t l ∷ ts) c j h = absurd (let z : ⊥ = cc in z)
 found_run (step.Run b l ∷ ts) c j h =
     let same : b ≡ c = (callback_decides b c).0 (both_left (same_callback b c) (same_option same_handle l j) h) in
-    let too : l ≡ j = handles_same l j (both_right (same_callback b c) (same_option same_handle l j) h) in
+    let too : l ≡ j = option_handle_is l j (both_right (same_callback b c) (same_option same_handle l j) h) in
     ap (λ x. step.Run x l ∷ ts) same ∙ ap (λ x. step.Run c x ∷ ts) too
 
 pub found_pass : (ss : List Step) (s : Stage) (j : Option Handle) → same_option same_step (first_of_list ss) (Some (step.Pass s j)) ≡ true → ss ≡ step.Pass s j ∷ drop 1 ss
@@ -73,7 +65,7 @@ found_pass [] s j h = absurd (let z : ⊥ = cc in z)
 found_pass (step.Run b l ∷ ts) s j h = absurd (let z : ⊥ = cc in z)
 found_pass (step.Pass t l ∷ ts) s j h =
     let same : t ≡ s = (stage_decides t s).0 (both_left (same_stage t s) (same_option same_handle l j) h) in
-    let too : l ≡ j = handles_same l j (both_right (same_stage t s) (same_option same_handle l j) h) in
+    let too : l ≡ j = option_handle_is l j (both_right (same_stage t s) (same_option same_handle l j) h) in
     ap (λ x. step.Pass x l ∷ ts) same ∙ ap (λ x. step.Pass s x ∷ ts) too
 
 pub not_running : (r : Option Step) → is_some r ≡ false → r ≡ None

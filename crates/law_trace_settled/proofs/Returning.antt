@@ -30,9 +30,10 @@ use Rattle.wdf_model.proofs.Tests.{both_right, first, second}
 use Rattle.wdf_model.proofs.Maps.{entry_map, entry_put_other, entry_put_same, entry_set_other, set_read}
 use Rattle.wdf_model.proofs.Counts.{one_or_two}
 use Rattle.law_machine_lives.proofs.Stays.{asks_all, given, given_if}
-use Rattle.law_machine_lives.proofs.Readers.{arrived_requests, requests_of}
+use Rattle.law_machine_lives.proofs.Readers.{requests_of}
 use Rattle.law_trace_power.proofs.Calm.{released_by}
 use Rattle.law_machine_lives.proofs.Places.{marked_place, unmarked_place}
+use Rattle.law_machine_counts.proofs.Arrived.{arrived_requests}
 
 -- ---- requests
 
