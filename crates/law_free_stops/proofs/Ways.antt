@@ -9,9 +9,6 @@ use Rattle.wdf_base.specs.declared.event.Stage.{Stage}
 use Rattle.wdf_base.specs.declared.event.Stage.TheVariants as stage
 use Rattle.wdf_base.specs.declared.event.Step.{Step}
 use Rattle.wdf_base.specs.declared.event.Step.TheVariants as step
-use Rattle.wdf_base.specs.declared.object.Place.{Place}
-use Rattle.wdf_base.specs.declared.object.Place.TheVariants as place
-use Rattle.wdf_base.specs.declared.object.RequestInfo.{RequestInfo}
 use Rattle.wdf_base.specs.declared.value.Value.{Value}
 use Rattle.wdf_model.specs.declared.enums.Mode.TheVariants as mode
 use Rattle.wdf_model.specs.Tables.{entry, first_of_list}
@@ -25,7 +22,7 @@ use Rattle.wdf_model.specs.parts.Tree.{subtree}
 use Rattle.wdf_model.specs.State.{State}
 use Rattle.wdf_model.specs.declared.deed.Deed.{Deed}
 use Rattle.wdf_model.specs.declared.deed.Deed.TheVariants.{Arrive, AskDeletion, AskDevice, CloseDevice, CloseReturning, CompleteRequest, EndStep, Forward, GiveBack, PurgeQueue, Requeue, SendRequest, TakeStep}
-use Rattle.wdf_model.specs.rules.Deeds.{arrive_at, do_deed, give_up}
+use Rattle.wdf_model.specs.rules.Deeds.{do_deed, give_up}
 use Rattle.law_machine_base.specs.Fits.{fits}
 use Rattle.wdf_model.proofs.Counts.{one_or_two}
 use Rattle.wdf_model.proofs.Maps.{entry_put_other, entry_put_same}

@@ -1,18 +1,12 @@
 -- What a frame does is an event of the plan.
 use Rattle.std.proofs.Common.{if◌then◌else◌, ◌≡◌, ℕ, ◌<◌, ◌^◌, Bool, true, false, List, [], ◌∷◌, ◌++◌, Option, Some, None, is_some, refl, sym, ap, subst}
-use Rattle.std.proofs.Common.{rules}
-use Rattle.std.specs.Bool.{Decides}
 use Rattle.wdf_base.specs.Meaning.{Meaning}
-use Rattle.wdf_base.specs.Same.{same_access, same_event, same_fault, same_option}
+use Rattle.wdf_base.specs.Same.{same_event, same_option}
 use Rattle.wdf_base.specs.declared.plan.Plan.{Plan}
-use Rattle.wdf_base.specs.declared.ids.Cpu.{Cpu}
 use Rattle.wdf_base.specs.declared.call.Call.{Call}
-use Rattle.wdf_base.specs.declared.event.Access.{Access}
-use Rattle.wdf_base.specs.declared.event.Access.TheVariants as access
 use Rattle.wdf_base.specs.declared.event.Event.{Event}
 use Rattle.wdf_base.specs.declared.event.Event.TheVariants as event
 use Rattle.wdf_base.specs.declared.event.Fault.{Fault}
-use Rattle.wdf_base.specs.declared.event.Fault.TheVariants as fault
 use Rattle.wdf_base.specs.declared.frame.Frame.{Frame}
 use Rattle.wdf_base.specs.declared.frame.Intent.{Intent}
 use Rattle.wdf_base.specs.declared.frame.Intent.TheVariants as intent
@@ -30,8 +24,7 @@ use Rattle.wdf_model.specs.rules.Faults.{fault_of}
 use Rattle.wdf_model.specs.rules.Calls.{is_met, is_met_then, outcome, second_deeds}
 use Rattle.wdf_model.specs.rules.Starts.{shown}
 use Rattle.wdf_model.specs.rules.Steps.{deeds, did_deeds, event_of_frame, event_of_top, fault_event, intent_event, may, own_event, spends, view_of}
-use Rattle.wdf_model.proofs.Sames.{cpu_same, did_same, end_same, value_same, waiting_same, woke_same}
-use Rattle.wdf_model.proofs.Tests.{both_left, both_right}
+use Rattle.wdf_model.proofs.Sames.{did_same, end_same, waiting_same, woke_same}
 use Rattle.law_machine_lives.proofs.Lists.{inside}
 use Rattle.wdf_model.specs.rules.Room.{AreDoable}
 use Rattle.wdf_trace.specs.Events.{IsCallOf, IsEventOf}

@@ -2,16 +2,13 @@
 use Rattle.std.proofs.Common.{◌≡◌, ℕ, ◌+◌, ◌==◌, ◌<◌, ◌≤◌, ◌^◌, true, false, ◌&&◌, List, ◌++◌, inl, inr, Option, Some, None, length, count_by, nat_le, slice_get, refl, sym, subst, arith}
 use Rattle.std.specs.List.{flat_map}
 use Rattle.std.proofs.lemmas.Bool.{and_parts, leb-true, ltb-true}
-use Rattle.std.specs.Bool.{Decides}
-use Rattle.std.proofs.Common.{rules, ap, is_some, ◌∙◌}
+use Rattle.std.proofs.Common.{is_some}
 use Rattle.wdf_base.specs.declared.event.Stage.{Stage}
 use Rattle.wdf_base.specs.declared.event.Stage.TheVariants as stage
-use Rattle.wdf_base.specs.declared.event.Step.{Step}
 use Rattle.wdf_base.specs.declared.event.Step.TheVariants as step
-use Rattle.wdf_base.specs.Same.{same_handle, same_option, same_stage, same_step}
+use Rattle.wdf_base.specs.Same.{same_option, same_step}
 use Rattle.wdf_model.specs.parts.Pnp.{next_step}
 use Rattle.wdf_model.specs.rules.Starts.{may_pass, stage_effect}
-use Rattle.wdf_model.proofs.Sames.{handle_decides}
 use Rattle.law_machine_once.specs.Owned.{IsStepOf, StepsOwned}
 use Rattle.law_machine_once.proofs.Steps.{steps_owned_at_each}
 use Rattle.wdf_base.specs.Stages.{is_for_interrupt}

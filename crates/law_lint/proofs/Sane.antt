@@ -32,7 +32,8 @@ use Rattle.wdf_model.proofs.Tests.{both_left, both_right, not_true}
 use Rattle.wdf_model.proofs.Maps.{entry_map, entry_put_other, entry_put_same, entry_set_other, set_read}
 use Rattle.wdf_model.proofs.Counts.{one_or_two}
 use Rattle.law_machine_base.proofs.KeptByDeeds.{owned_of}
-use Rattle.law_lint.proofs.Grips.{arrives, asked, given_up, given_up_if, is_armed}
+use Rattle.law_lint.proofs.Grips.{arrives, asked, given_up_if, is_armed}
+use Rattle.law_trace_settled.proofs.Returning.{given_requests}
 
 pub record Sane (q : Request) : Type 0 where
   pub armed : is_armed q.info.mark ≡ true → is_owned q.place ≡ true
@@ -182,10 +183,10 @@ deed_sane plan (EndLife o) S f s all = λ x. elim (one_or_two x o.0) [
 ]
 deed_sane plan (Present q r) S f s all = one_changes S.requests r.0 (moved place.Owned) (moves_sane (request_of S.requests r.0) place.Owned tt) all
 deed_sane plan (Receive q r) S f s all = one_changes S.requests r.0 (moved place.Owned) (moves_sane (request_of S.requests r.0) place.Owned tt) all
-deed_sane plan (Requeue r q) S f s all = moved_then S.requests (give_up S r.0).requests r.0 (queued q.0) (given_up S r.0) tt all
-deed_sane plan (Forward r q) S f s all = moved_then S.requests (give_up S r.0).requests r.0 (queued q.0) (given_up S r.0) tt all
+deed_sane plan (Requeue r q) S f s all = moved_then S.requests (give_up S r.0).requests r.0 (queued q.0) (given_requests S r.0) tt all
+deed_sane plan (Forward r q) S f s all = moved_then S.requests (give_up S r.0).requests r.0 (queued q.0) (given_requests S r.0) tt all
 deed_sane plan (GiveBack r q) S f s all =
-    subst (λ (V : Requests). AllSane (requests.move_to (requests.cancel V r.0) r.0 (withdrawn_place plan (give_up S r.0) q.0 r.0))) (sym (given_up S r.0))
+    subst (λ (V : Requests). AllSane (requests.move_to (requests.cancel V r.0) r.0 (withdrawn_place plan (give_up S r.0) q.0 r.0))) (sym (given_requests S r.0))
     (withdraws S.requests r.0 (withdrawn_place plan (give_up S r.0) q.0 r.0) (withdrawn_plain plan (give_up S r.0) q.0 r.0) all)
 deed_sane {A} plan (Withdraw q r) S f s all =
     let W : State A = record S { queues = queues.take_cancelled S.queues r.0 } in

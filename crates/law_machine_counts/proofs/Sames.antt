@@ -1,5 +1,5 @@
 -- What passes a test of equality is equal: stages, steps, and the events of frames.
-use Rattle.std.proofs.Common.{◌≡◌, ℕ, true, Option, Some, None, refl, ap, rules}
+use Rattle.std.proofs.Common.{◌≡◌, ℕ, true, Option, Some, None, rules}
 use Rattle.std.specs.Bool.{Decides}
 use Rattle.wdf_base.specs.Same.{same_access, same_ask, same_event, same_fault, same_handle, same_option, same_stage, same_step}
 use Rattle.wdf_base.specs.declared.event.Access.{Access}

@@ -5,6 +5,7 @@ use Rattle.wdf_base.specs.declared.object.Place.TheVariants as place
 use Rattle.wdf_base.specs.declared.value.Status.{Status}
 use Rattle.wdf_base.specs.Places.{is_done, is_queued_in, is_returning_to, is_sent}
 use Rattle.wdf_model.specs.State.{held_at}
+use Rattle.wdf_model.specs.rules.Deeds.{finished_at}
 
 pub held_undone : (forgotten : Bool) (p : Place) → held_at forgotten p ≡ true → is_done p ≡ false
 held_undone forgotten place.Done h = absurd (let z : ⊥ = cc in z)

@@ -3,7 +3,7 @@ use Rattle.std.proofs.Common.{◌≡◌, ℕ, true, false, refl, if◌then◌els
 use Rattle.wdf_base.specs.declared.object.Place.{Place}
 use Rattle.wdf_base.specs.declared.object.Place.TheVariants as place
 use Rattle.wdf_base.specs.declared.object.Mark.TheVariants as marks
-use Rattle.wdf_base.specs.Places.{is_done, is_returning_to, is_sent}
+use Rattle.wdf_base.specs.Places.{is_done, is_sent}
 use Rattle.wdf_model.specs.parts.Requests.{is_in, with_mark}
 use Rattle.wdf_model.specs.declared.entries.Request.{Request}
 

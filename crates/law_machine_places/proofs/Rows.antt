@@ -1,29 +1,16 @@
 -- The ranks that one callback has, and what tests of equality say.
-use Rattle.std.proofs.Common.{◌≡◌, ◌==◌, ℕ, Bool, true, ◌&&◌, Option, Some, None, refl, ap, rules}
+use Rattle.std.proofs.Common.{◌≡◌, ◌==◌, Bool, true, ◌&&◌, Option, Some, None, refl, ap, rules}
 use Rattle.std.specs.Bool.{Decides}
 use Rattle.std.proofs.lemmas.Bool.{eqb-true}
 use Rattle.wdf_base.specs.Callbacks.{row_of}
-use Rattle.wdf_base.specs.Same.{same_access, same_action, same_ask, same_event, same_fault, same_handle, same_option, same_post, same_stage, same_status, same_step}
+use Rattle.wdf_base.specs.Same.{same_action, same_ask, same_handle, same_option, same_post, same_status}
 use Rattle.wdf_base.specs.declared.call.Callback.{Callback}
 use Rattle.wdf_base.specs.declared.call.Callback.TheVariants as callback
-use Rattle.wdf_base.specs.declared.event.Access.{Access}
-use Rattle.wdf_base.specs.declared.event.Event.{Event}
-use Rattle.wdf_base.specs.declared.event.Event.TheVariants as event
-use Rattle.wdf_base.specs.declared.event.Fault.{Fault}
 use Rattle.wdf_base.specs.declared.event.Action.{Action}
-use Rattle.wdf_base.specs.declared.event.Ask.{Ask}
 use Rattle.wdf_base.specs.declared.event.Post.{Post}
 use Rattle.wdf_base.specs.declared.event.Post.TheVariants as post
-use Rattle.wdf_base.specs.declared.event.Stage.{Stage}
-use Rattle.wdf_base.specs.declared.event.Step.{Step}
-use Rattle.wdf_base.specs.declared.event.Step.TheVariants as step
-use Rattle.wdf_base.specs.declared.ids.Cpu.{Cpu}
-use Rattle.wdf_base.specs.declared.ids.Handle.{Handle}
 use Rattle.wdf_base.specs.declared.rank.Rank.TheVariants as rank
-use Rattle.wdf_base.specs.declared.value.Status.{Status}
-use Rattle.wdf_base.specs.declared.value.Value.{Value}
-use Rattle.wdf_model.specs.Tables.{same_id}
-use Rattle.wdf_model.proofs.Sames.{cpu_same, handle_same, status_decides, value_same}
+use Rattle.wdf_model.proofs.Sames.{handle_same, status_decides}
 use Rattle.wdf_model.proofs.Tests.{both_left, both_right}
 use Rattle.law_machine_counts.proofs.Sames.{ask_decides}
 
@@ -72,10 +59,6 @@ resume_only callback.EvtIoResume h = refl
 resume_only _ h = absurd (let z : ⊥ = cc in z)
 
 -- ---- tests of equality
-
-pub id_is : (x : Option ℕ) (o : ℕ) → same_id x o ≡ true → x ≡ Some o
-id_is None o h = absurd (let z : ⊥ = cc in z)
-id_is (Some x) o h = ap Some (eqb-true x o h)
 
 pub some_same : {T : Type 0} (same : T → T → Bool) → ((a b : T) → same a b ≡ true → a ≡ b) → (x : Option T) (y : T) → same_option same x (Some y) ≡ true → x ≡ Some y
 some_same same is None y h = absurd (let z : ⊥ = cc in z)

@@ -1,13 +1,10 @@
 -- The deeds of frames that go on, wake, end, leave their processor and come back can be done.
-use Rattle.std.proofs.Common.{◌≡◌, ℕ, ◌<◌, ◌≤◌, Bool, true, false, ◌&&◌, List, [], ◌∷◌, ◌++◌, length, fold, Option, Some, None, is_some, refl, ap, ◌∙◌, arith}
+use Rattle.std.proofs.Common.{◌≡◌, ℕ, ◌<◌, Bool, true, false, ◌&&◌, List, [], ◌∷◌, ◌++◌, length, fold, Option, Some, None, is_some, refl, ap, ◌∙◌, arith}
 use Rattle.wdf_base.specs.declared.ids.Cpu.{Cpu}
 use Rattle.wdf_base.specs.declared.ids.FrameId.{FrameId}
 use Rattle.wdf_base.specs.declared.ids.Handle.{Handle}
 use Rattle.wdf_base.specs.declared.value.Value.{Value}
 use Rattle.wdf_base.specs.declared.object.LockRef.{LockRef}
-use Rattle.wdf_base.specs.declared.object.Place.{Place}
-use Rattle.wdf_base.specs.declared.object.Place.TheVariants as place
-use Rattle.wdf_base.specs.declared.object.RequestInfo.{RequestInfo}
 use Rattle.wdf_base.specs.declared.call.Arg.{Arg}
 use Rattle.wdf_base.specs.declared.call.Call.{Call}
 use Rattle.wdf_base.specs.declared.call.CallKind.{CallKind}
@@ -21,7 +18,7 @@ use Rattle.wdf_base.specs.Callbacks.{row_of}
 use Rattle.wdf_base.specs.Lives.{is_live}
 use Rattle.wdf_model.specs.declared.enums.Mode.TheVariants as mode
 use Rattle.wdf_model.specs.declared.room.TheConstants.{EVENTS, FRAMES}
-use Rattle.wdf_model.specs.Tables.{contains, flag, same_id}
+use Rattle.wdf_model.specs.Tables.{contains, same_id}
 use Rattle.wdf_model.specs.Plans.{managed_queues, queues_of}
 use Rattle.wdf_model.specs.parts.Tree.{life_of, subtree}
 use Rattle.wdf_model.specs.parts.Cpus.{frame_of, top}
@@ -33,7 +30,7 @@ use Rattle.wdf_model.specs.State.{State, declared_in, is_with_driver}
 use Rattle.wdf_model.specs.Ids.{cpu_of, frame_id}
 use Rattle.wdf_model.specs.declared.deed.Deed.{Deed}
 use Rattle.wdf_model.specs.declared.deed.Deed.TheVariants.{Arrive, AskDeletion, Requeue, Forward, GiveBack, SendRequest, CompleteRequest, PurgeQueue, CloseReturning, CloseDevice, GoOn, PopFrame, PushFrame, ParkFrame, UnparkFrame}
-use Rattle.wdf_model.specs.rules.Deeds.{arrive_at, ask_object, close_queue, close_returning, do_deed, do_deeds, give_up, give_up_if, withdraw}
+use Rattle.wdf_model.specs.rules.Deeds.{ask_object, close_queue, close_returning, do_deed, do_deeds, give_up, give_up_if, withdraw}
 use Rattle.wdf_model.specs.rules.Calls.{is_met, second_deeds}
 use Rattle.wdf_model.specs.rules.Starts.{end_deeds, end_of_step, release_if_any}
 use Rattle.wdf_model.specs.rules.Steps.{answered, by_top, is_cpu, may_park, may_unpark, woke_deeds}
@@ -123,10 +120,6 @@ second_doable plan U f _ n a b x few room h = tt
 pub same_there : (o : Option ℕ) (f : ℕ) → same_id o f ≡ true → is_some o ≡ true
 same_there None f h = h
 same_there (Some g) f h = refl
-
-pub flagged : (b : Bool) → 1 ≤ flag b → b ≡ true
-flagged true h = refl
-flagged false h = absurd (omega arith)
 
 module _ {A : Type 0} {plan : Plan} {S : State A} (k : Fine plan S) where
   -- ---- a frame goes on

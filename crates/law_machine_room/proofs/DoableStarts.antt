@@ -1,5 +1,5 @@
 -- The deeds of starts can be done.
-use Rattle.std.proofs.Common.{◌≡◌, ℕ, zero, suc, ◌+◌, ◌==◌, ◌<◌, ◌≤◌, ◌^◌, Bool, true, false, List, [], ◌∷◌, length, count_by, IfSome, Option, Some, None, is_some, option_map, slice_get, unwrap_or, refl, ap, arith}
+use Rattle.std.proofs.Common.{◌≡◌, ℕ, zero, suc, ◌+◌, ◌==◌, ◌<◌, ◌≤◌, ◌^◌, true, false, List, [], ◌∷◌, length, count_by, IfSome, Option, Some, None, is_some, option_map, slice_get, unwrap_or, refl, ap, arith}
 use Rattle.std.specs.List.{list_all}
 use Rattle.std.proofs.lemmas.Bool.Decides.{nat_tests}
 use Rattle.std.proofs.lemmas.Bool.{eqb-true}
@@ -35,7 +35,7 @@ use Rattle.wdf_model.specs.parts.Queues.{front, waiting_in}
 use Rattle.wdf_model.specs.parts.Control.{no_control, notify_due}
 use Rattle.wdf_model.specs.parts.Pnp.{next_step, no_sequence}
 use Rattle.wdf_model.specs.parts.Deferred.Timers.{is_reached, timed_of, timer_due}
-use Rattle.wdf_model.specs.State.{State, declared_in, held_at, is_with_driver}
+use Rattle.wdf_model.specs.State.{State, declared_in, is_with_driver}
 use Rattle.wdf_model.specs.Ids.{frame_id, irql_of, object_id}
 use Rattle.wdf_model.specs.declared.deed.Deed.TheVariants.{Present, PushFrame}
 use Rattle.wdf_model.specs.rules.Deeds.{do_deeds}
@@ -46,9 +46,10 @@ use Rattle.wdf_model.proofs.Counts.{equal, front_leaves}
 use Rattle.law_machine_room.specs.Kept.{table_size}
 use Rattle.wdf_model.specs.rules.Room.{AreDoable, IsRequest, IsThere, MayHold}
 use Rattle.law_machine_room.proofs.Doable.{Fine, clock_small, cpu_of_plan, doable_after, held_few, inside, locks_few, next_frame_few, next_frame_fresh, request_here, stack_there}
-use Rattle.law_machine_room.proofs.DoableFrames.{flagged, same_there}
+use Rattle.law_machine_room.proofs.DoableFrames.{same_there}
 use Rattle.law_machine_counts.proofs.StepTable.{top_is}
 use Rattle.law_machine_counts.proofs.Undone.{held_undone, queued_undone, returning_undone}
+use Rattle.law_machine_counts.proofs.Totals.{flagged}
 
 -- ---- places and ids
 

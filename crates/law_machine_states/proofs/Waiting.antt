@@ -19,8 +19,6 @@ use Rattle.wdf_base.specs.declared.event.Event.TheVariants as event
 use Rattle.wdf_base.specs.declared.event.Fault.TheVariants as fault
 use Rattle.wdf_base.specs.declared.frame.Frame.{Frame}
 use Rattle.wdf_base.specs.declared.frame.Pending.{Pending}
-use Rattle.wdf_base.specs.declared.object.Life.{Life}
-use Rattle.wdf_base.specs.declared.object.Life.TheVariants as life
 use Rattle.wdf_base.specs.declared.object.LockRef.{LockRef}
 use Rattle.wdf_base.specs.declared.signature.Sort.{Sort}
 use Rattle.wdf_base.specs.Calls.{signature_of}
@@ -68,6 +66,7 @@ use Rattle.law_machine_states.specs.Naming.{has_object, names, names_there}
 use Rattle.law_machine_states.specs.States.{WaitsBeforeCleanup}
 use Rattle.law_machine_states.proofs.Early.{early_still}
 use Rattle.law_machine_states.proofs.Naming.{nameable, object_stays, objects_there}
+use Rattle.law_machine_lives.proofs.QuietMoves.{cleaned_past}
 
 -- the row of a call asks for one object, as the first argument, and that isn't to be cleaned
 pub record HasOne (k : CallKind) : Type 0 where
@@ -94,10 +93,6 @@ found_in q f (x ∷ xs) passes more = elim (cases_Bool (x == f)) [
   | inr off ↦ second (q x) (list_any q xs) (found_in q f xs passes (let e = count_no (λ y. y == f) x xs off in omega arith))
 ]
 
-cleaned_late : (l : Life) → is_cleaned l ≡ true → is_past_cleanup l ≡ true
-cleaned_late life.Cleaned h = refl
-cleaned_late _ h = absurd (let z : ⊥ = cc in z)
-
 -- it isn't cleaned up, since a frame waits for it, and doesn't end, since it isn't cleaned
 stays_early : {A : Type 0} (plan : Plan) (d : Deed) (S : State A) → fits plan d S ≡ true → (f : ℕ) (p : Pending) → 1 ≤ on S.cpus f → (frame_of S.cpus f).pending ≡ Some p
     → is_past_cleanup (life_of S.tree (object_in p.call.a)) ≡ false → is_past_cleanup (life_of (do_deed plan d S).tree (object_in p.call.a)) ≡ false
@@ -108,7 +103,7 @@ stays_early plan (CleanUp x) S fit f p more waits early = early_still plan (Clea
     let z : ⊥ = cc in z) early
 stays_early plan (EndLife x) S fit f p more waits early = early_still plan (EndLife x) S (object_in p.call.a) (λ same.
     let clean : is_cleaned (life_of S.tree x.0) ≡ true = search (both_left, both_right) in
-    let late : is_past_cleanup (life_of S.tree (object_in p.call.a)) ≡ true = ap (λ y. is_past_cleanup (life_of S.tree y)) same ∙ cleaned_late (life_of S.tree x.0) clean in
+    let late : is_past_cleanup (life_of S.tree (object_in p.call.a)) ≡ true = ap (λ y. is_past_cleanup (life_of S.tree y)) same ∙ cleaned_past (life_of S.tree x.0) clean in
     let z : ⊥ = cc in z) early
 stays_early plan d S fit f p more waits early = early_still plan d S (object_in p.call.a) (λ e. e) early
 

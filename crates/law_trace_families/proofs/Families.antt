@@ -171,7 +171,7 @@ same_parent : (d : Declared) → (declared_node d).parent.0 ≡ declared_parent 
 same_parent declared.Driver = refl
 same_parent _ = refl
 
-declared_at : (ds : List Declared) (k : ℕ) (d : Declared) → slice_get ds k ≡ Some d → entry gone (map declared_node ds) k ≡ declared_node d
+pub declared_at : (ds : List Declared) (k : ℕ) (d : Declared) → slice_get ds k ≡ Some d → entry gone (map declared_node ds) k ≡ declared_node d
 declared_at [] k d h = absurd (let z : ⊥ = cc in z)
 declared_at (x ∷ xs) zero d h = let same : x ≡ d = cc in ap declared_node same
 declared_at (x ∷ xs) (suc k) d h = declared_at xs k d h

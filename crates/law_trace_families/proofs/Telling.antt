@@ -77,7 +77,7 @@ class_made plan n o (Some (class.Plain name plain.Object)) = refl
 class_made plan n o (Some (class.Deferred name deferred.Dpc parent serialize period)) = refl
 class_made plan n o _ = refl
 
-creates : {A : Type 0} (plan : Plan) (S : State A) (k : Kind) (class parent : ℕ) → (do_deeds plan (creation k class parent ∷ []) S).tree ≡ tree.create S.tree k class parent
+pub creates : {A : Type 0} (plan : Plan) (S : State A) (k : Kind) (class parent : ℕ) → (do_deeds plan (creation k class parent ∷ []) S).tree ≡ tree.create S.tree k class parent
 creates plan S kind.Made class parent = refl
 creates plan S _ class parent = refl
 

@@ -1,6 +1,5 @@
 -- Each event that may come keeps what holds of devices, of their interrupts, and of the frames of their steps.
-use Rattle.std.proofs.Common.{◌≡◌, ◌≢◌, ℕ, ◌==◌, Bool, true, false, not, ◌&&◌, ◌||◌, List, [], ◌∷◌, ◌++◌, inl, inr, Option, Some, None, drop, length, is_some, refl, sym, ap, subst, ◌∙◌, arith, rules}
-use Rattle.std.specs.Bool.{Decides}
+use Rattle.std.proofs.Common.{◌≡◌, ◌≢◌, ℕ, ◌==◌, Bool, true, false, not, ◌&&◌, ◌||◌, List, [], ◌∷◌, ◌++◌, inl, inr, Option, Some, None, drop, length, is_some, refl, sym, ap, subst, ◌∙◌, arith}
 use Rattle.std.proofs.lemmas.Bool.{eqb-true}
 use Rattle.wdf_base.specs.declared.ids.Cpu.{Cpu}
 use Rattle.wdf_base.specs.declared.ids.Handle.{Handle}
@@ -25,7 +24,7 @@ use Rattle.wdf_model.specs.parts.Pnp.{Pnp, Sequence, busy, is_running_step, left
 use Rattle.wdf_model.specs.parts.Pnp as pnp
 use Rattle.wdf_model.specs.parts.Interrupts.{Interrupts, is_enabled}
 use Rattle.wdf_model.proofs.Maps.{entry_put_other, entry_put_same}
-use Rattle.wdf_model.proofs.Sames.{callback_decides, handle_decides}
+use Rattle.wdf_model.proofs.Sames.{callback_decides}
 use Rattle.wdf_model.proofs.Tests.{both_left, both_right, either_false, not_false}
 use Rattle.wdf_model.proofs.Counts.{equal, not_equal, one_or_two}
 use Rattle.wdf_laws.specs.declared.sign.Sign.TheVariants as sign
@@ -94,7 +93,7 @@ stage_elsewhere device stage.QueuesDown j d h = (refl, refl, h, refl)
 stage_elsewhere device _ j d h = (refl, refl, refl, refl)
 
 -- the same test of two modules
-success_same : (v : Value) → pnp.is_success v ≡ laws_success v
+pub success_same : (v : Value) → pnp.is_success v ≡ laws_success v
 success_same (Num n) = refl
 success_same _ = refl
 
