@@ -1,5 +1,5 @@
 -- The law on steps and their frames, at each place of every run.
-use Rattle.std.proofs.Common.{if◌then◌else◌, ◌≡◌, ℕ, zero, suc, ◌+◌, ◌==◌, Bool, true, false, List, [], ◌∷◌, ◌⊎◌, inl, inr, Option, Some, None, is_some, map, take, replicate, count_by, refl, ap, sym, subst, ◌∙◌, ◌≤◌, arith}
+use Rattle.std.proofs.Common.{if◌then◌else◌, ◌≡◌, ℕ, zero, suc, ◌+◌, ◌==◌, Bool, true, false, List, [], ◌∷◌, ◌⊎◌, inl, inr, Option, Some, None, is_some, map, take, replicate, count_by, length, refl, ap, sym, subst, ◌∙◌, ◌≤◌, arith}
 use Rattle.std.specs.List.{flat_map}
 use Rattle.wdf_base.specs.Meaning.{Meaning}
 use Rattle.wdf_base.specs.declared.plan.Plan.{Plan}
