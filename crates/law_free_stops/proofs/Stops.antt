@@ -51,7 +51,7 @@ use Rattle.law_machine_deeds.proofs.Passing.{event_passes}
 use Rattle.law_machine_counts.proofs.FrameMoves.{FrameKept, kept_same}
 use Rattle.law_machine_counts.proofs.StepsOverRuns.{none_yet}
 use Rattle.law_machine_counts.proofs.StillFrames.{live_there}
-use Rattle.law_machine_lives.proofs.AllOf.{AllOf, all_behind}
+use Rattle.law_machine_lives.proofs.AllOf.{AllOf, all_behind, all_such}
 use Rattle.law_machine_lives.proofs.ReasonsOfEvents.{top_on}
 use Rattle.wdf_laws.specs.Laws.{is_managed_of}
 use Rattle.law_trace_power.proofs.Happens.{found_pass, found_run}
@@ -146,8 +146,7 @@ plain_minds plan (EndStep d s v) S h = absurd (let z : ⊥ = cc in z)
 plain_minds plan _ S h = tt
 
 all_plain : {A : Type 0} (plan : Plan) (ds : List Deed) (S : State A) → list_all (λ d. not (is_minded d)) ds ≡ true → AllMind plan ds S
-all_plain plan [] S h = tt
-all_plain plan (d ∷ ds) S h = (plain_minds plan d S (not_true (is_minded d) (both_left (not (is_minded d)) (list_all (λ x. not (is_minded x)) ds) h)), all_plain plan ds (do_deed plan d S) (both_right (not (is_minded d)) (list_all (λ x. not (is_minded x)) ds) h))
+all_plain {A} plan ds S h = all_such plan (λ (d : Deed) (U : State A). Minds plan d U) (λ d. not (is_minded d)) (λ d U k. plain_minds plan d U (not_true (is_minded d) k)) ds S h
 
 unminded : (e : Event) → is_start e ≡ false → starts_step e ≡ false → is_stage e ≡ false → ends_step e ≡ false → (d : Deed) → may_do e d ≡ true → not (is_minded d) ≡ true
 unminded e s t g n (PushFrame cpu f frame level) h = absurd (let z : ⊥ = cc in z)

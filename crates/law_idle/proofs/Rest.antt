@@ -36,9 +36,10 @@ use Rattle.law_trace_power.proofs.Happens.{not_running, success_same, taken_pass
 use Rattle.law_trace_turns.specs.Turned.{Asked, Begun, Ended, Passed, Still, Turned, is_asking, is_turning}
 use Rattle.wdf_model.specs.agents.StackManager.{is_working}
 use Rattle.law_idle.specs.Idling.{Rest, asleep_step, awake_step, refuses_removal, refuses_stop, rest_after}
-use Rattle.law_idle.specs.Resting.{IsAtRest, Rests, has_query, is_sleeping, is_tidy, step_if_any, under_way}
+use Rattle.law_idle.specs.Resting.{IsAtRest, Rests, has_query, is_sleeping, is_tidy}
 use Rattle.law_idle.proofs.Lists.{end_asks_not, end_tidy, lists_tidy, rest_is_last, tail_asks_not, tail_asks_nothing, tail_is_tidy, tidy_tail}
 use Rattle.law_machine_lives.proofs.Lists.{none_left}
+use Rattle.law_trace_power.specs.UnderWay.{step_if_any, under_way}
 
 -- ---- truth values
 

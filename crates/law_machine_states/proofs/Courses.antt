@@ -20,9 +20,10 @@ use Rattle.wdf_model.proofs.Counts.{one_or_two}
 use Rattle.law_trace_power.proofs.Happens.{taken_pass, taken_run}
 use Rattle.law_trace_settled.proofs.Moves as moves
 use Rattle.law_trace_settled.proofs.Moves.{Moved}
-use Rattle.law_machine_states.specs.Courses.{Asked, ComesFromList, Failed, IsEndOf, step_if_any, under_way}
+use Rattle.law_machine_states.specs.Courses.{Asked, ComesFromList, Failed, IsEndOf}
 use Rattle.law_machine_states.specs.Settled.{settles_next}
 use Rattle.law_machine_states.proofs.Lists.{agree, asked_whole, end_ordered, falls, in_order, is_end, tail_whole, turns_by}
+use Rattle.law_trace_power.specs.UnderWay.{step_if_any, under_way}
 
 -- ---- ends of lists
 

@@ -33,11 +33,11 @@ use Rattle.law_trace_settled.proofs.Moves.{Moved}
 use Rattle.law_trace_settled.proofs.Never.{not_so, not_such}
 use Rattle.law_trace_settled.proofs.Queues.{of_device}
 use Rattle.law_trace_power.proofs.Happens.{taken_pass}
-use Rattle.law_machine_states.specs.Courses.{step_if_any, under_way}
 use Rattle.law_machine_states.specs.Settled.{settles_next}
 use Rattle.law_machine_states.proofs.Lists.{agree, falls, in_order, is_end, turns}
 use Rattle.law_machine_states.proofs.Courses.{Courses, ordered}
 use Rattle.law_machine_states.proofs.Open.{Before, OpenStep, Opened, Taken, Woken, is_open}
+use Rattle.law_trace_power.specs.UnderWay.{step_if_any, under_way}
 
 -- nothing is held of the device and not acknowledged
 abbrev pub AllSettled : Power → ℕ → Type 0
