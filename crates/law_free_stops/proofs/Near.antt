@@ -1,5 +1,5 @@
 -- The nearest device of a queue that is there is the device to which it belongs, at each place of a free run.
-use Rattle.std.proofs.Common.{◌≡◌, ℕ, zero, suc, ◌+◌, ◌==◌, ◌<◌, true, false, not, ◌&&◌, nat_lt, List, [], ◌∷◌, Option, Some, None, is_some, count_by, length, slice_get, refl, ap, subst, ◌∙◌, arith}
+use Rattle.std.proofs.Common.{◌≡◌, ℕ, zero, suc, ◌+◌, ◌==◌, ◌<◌, true, false, not, ◌&&◌, nat_lt, List, [], ◌∷◌, Some, count_by, length, slice_get, ap, subst, ◌∙◌, arith}
 use Rattle.std.proofs.lemmas.Bool.{eqb-true}
 use Rattle.std.proofs.lemmas.List.Sums.{length-filter}
 use Rattle.std.specs.List.{range_with_len}
@@ -13,7 +13,7 @@ use Rattle.wdf_base.specs.Plan.{declared_of}
 use Rattle.wdf_base.specs.Resolved.{IsResolved, in_order, objects_in_order}
 use Rattle.wdf_base.specs.Same.{same_kind}
 use Rattle.wdf_model.specs.Tables.{flag}
-use Rattle.wdf_model.specs.Plans.{as_device, as_queue}
+use Rattle.wdf_model.specs.Plans.{as_queue}
 use Rattle.wdf_model.specs.parts.Tree.{Tree, children, is_child, kind_of, life_of, made_as, may_destroy, nearest_device, node_of, parent_of}
 use Rattle.wdf_model.specs.parts.Cpus.{nobody_on}
 use Rattle.wdf_model.specs.State.{State, declared_in, opening}
@@ -25,12 +25,11 @@ use Rattle.law_machine_base.specs.OverRuns.{DeclaredAgree}
 use Rattle.wdf_model.proofs.Counts.{equal}
 use Rattle.wdf_model.proofs.Tests.{both, both_left, both_right}
 use Rattle.law_machine_lives.proofs.There.{deed_there}
-use Rattle.law_trace_families.proofs.Families.{Family, declared_within}
+use Rattle.law_trace_families.proofs.Families.{Family, declared_within, device_info}
 use Rattle.law_trace_families.proofs.Stays.{Stays, WasAt, deed_stays}
 use Rattle.law_trace_power.proofs.Belonging.{device_of_queue}
 use Rattle.law_trace_power.proofs.Declares.{is_device, nearest_by, own_device_of}
 use Rattle.law_free_runs.proofs.FreeStates.{family_after}
-use Rattle.wdf_base.specs.declared.declared.DeviceInfo.{DeviceInfo}
 use Rattle.wdf_base.specs.Meaning.{Meaning}
 use Rattle.law_machine_counts.proofs.Totals.{counts_it}
 use Rattle.law_machine_counts.proofs.Trees.{none_not_some}
@@ -104,22 +103,13 @@ kin_by {A} plan d S fit k = record {
 
 -- ---- the nearest device
 
-device_is : (x : Option Declared) → is_some (as_device x) ≡ true → (i : DeviceInfo) × (x ≡ Some (declared.Device i))
-device_is (Some (declared.Device i)) h = (i, refl)
-device_is None h = absurd (let z : ⊥ = cc in z)
-device_is (Some declared.Driver) h = absurd (let z : ⊥ = cc in z)
-device_is (Some (declared.Queue x)) h = absurd (let z : ⊥ = cc in z)
-device_is (Some (declared.Interrupt x)) h = absurd (let z : ⊥ = cc in z)
-device_is (Some (declared.Target x)) h = absurd (let z : ⊥ = cc in z)
-device_is (Some (declared.OfClass x)) h = absurd (let z : ⊥ = cc in z)
-
 pub near : {A : Type 0} (plan : Plan) (S : State A) (q : ℕ) (i : QueueInfo) → IsResolved plan → DeclaredAgree plan S → Kin plan S.tree → declared_of plan q ≡ Some (declared.Queue i) → is_gone (life_of S.tree q) ≡ false → nearest_device S.tree q ≡ i.device.0
 near plan S q i resolved agree k at there =
     let T : Tree = S.tree in
     let d : ℕ = i.device.0 in
     let q_is = k.family.declared q (declared.Queue i) at there in
     let up : is_gone (life_of T d) ≡ false = k.above q i at there in
-    let info = device_is (declared_of plan d) (device_of_queue plan resolved q i (ap as_queue at)) in
+    let info = device_info (declared_of plan d) (device_of_queue plan resolved q i (ap as_queue at)) in
     let kind_is : kind_of T d ≡ kind.Device = (k.family.declared d (declared.Device info.0) info.1 up).1 in
     let declares : is_device (declared_in plan S d) ≡ true = ap (λ x. is_device (made_as plan (node_of T d) d x)) kind_is ∙ ap is_device info.1 in
     let low = older plan resolved q i at in
@@ -132,5 +122,5 @@ near plan S q i resolved agree k at there =
 pub kin_opens : {A : Type 0} (plan : Plan) (m : Meaning A) → IsResolved plan → Family plan [] (opening plan m).tree → Kin plan (opening plan m).tree
 kin_opens plan m resolved family = record {
   family = family;
-  above = λ q i at there. let info = device_is (declared_of plan i.device.0) (device_of_queue plan resolved q i (ap as_queue at)) in declared_there plan i.device.0 (declared.Device info.0) info.1;
+  above = λ q i at there. let info = device_info (declared_of plan i.device.0) (device_of_queue plan resolved q i (ap as_queue at)) in declared_there plan i.device.0 (declared.Device info.0) info.1;
 }

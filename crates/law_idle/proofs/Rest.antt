@@ -40,6 +40,7 @@ use Rattle.law_idle.specs.Resting.{IsAtRest, Rests, has_query, is_sleeping, is_t
 use Rattle.law_idle.proofs.Lists.{end_asks_not, end_tidy, lists_tidy, rest_is_last, tail_asks_not, tail_asks_nothing, tail_is_tidy, tidy_tail}
 use Rattle.law_machine_lives.proofs.Lists.{none_left}
 use Rattle.law_trace_power.specs.UnderWay.{step_if_any, under_way}
+use Rattle.law_trace_power.proofs.Sequences.{refused_query}
 
 -- ---- truth values
 
@@ -148,11 +149,6 @@ refusal_by d cpu callback.EvtDeviceQueryStop o v h = let t = told d o v (laws_su
 refusal_by d cpu callback.EvtDeviceQueryRemove o v h = let t = told d o v (laws_success v) refl h in record { query = refl; fails = t.0; on = t.1 }
 refusal_by d cpu _ o v h = absurd (let z : ⊥ = cc in z)
 
-nothing_left : (q : Sequence) (c : Callback) → is_query c ≡ true → left_after_failure q c ≡ []
-nothing_left q callback.EvtDeviceQueryStop h = refl
-nothing_left q callback.EvtDeviceQueryRemove h = refl
-nothing_left q _ h = absurd (let z : ⊥ = cc in z)
-
 failure_asks_not : (q : Sequence) (c : Callback) → has_query q.left ≡ false → has_query (left_after_failure q c) ≡ false
 failure_asks_not q callback.EvtDeviceQueryStop h = refl
 failure_asks_not q callback.EvtDeviceQueryRemove h = refl
@@ -205,7 +201,7 @@ module _ (d : ℕ) (W Z : Rest) (q : Sequence) (cpu : Cpu) (c : Callback) (j l :
   at_rest : (phase : Phase → Bool) → phase q.phase ≡ true → IsRefusal d c o v → IsAtRest phase (record q { left = left; running = None })
   at_rest phase h f = record {
     phase_is = h;
-    left = let n : left ≡ left_after_failure q c = rw f.fails refl in n ∙ nothing_left q c f.query;
+    left = let n : left ≡ left_after_failure q c = rw f.fails refl in n ∙ refused_query q c f.query;
     running = refl;
   }
 

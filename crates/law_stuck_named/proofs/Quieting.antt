@@ -41,10 +41,10 @@ use Rattle.law_machine_lives.proofs.Stays.{asks_all, gives_up, gives_up_if, queu
 use Rattle.law_machine_lives.proofs.Queued.{dpc_cancelled, dpc_enqueued, dpc_taken}
 use Rattle.law_trace_power.proofs.Happens.{not_running}
 use Rattle.law_machine_lives.proofs.Choices.{left_of}
-use Rattle.law_stuck_named.proofs.Lasting.{passed_left}
 use Rattle.law_stuck_named.proofs.Soon.{IsSteady, Unquiet, at_running, comes_soon, may_fail, soon_ended, steady_asked, steady_ended, steady_taken}
 use Rattle.law_stuck_named.proofs.Standing.{Comes}
 use Rattle.law_machine_lives.proofs.AllOf.{AllOf}
+use Rattle.law_trace_power.proofs.Sequences.{passed_left}
 
 -- ---- the property
 
