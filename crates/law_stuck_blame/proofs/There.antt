@@ -22,6 +22,7 @@ use Rattle.wdf_model.proofs.Maps.{entry_past}
 use Rattle.law_stuck_causes.specs.Causes.{has_lock, has_lock_if_any, is_there, runs_on}
 use Rattle.law_stuck_causes.proofs.Members.{Has, has_id, has_kept, has_range}
 use Rattle.law_stuck_blame.proofs.Rows.{there_least}
+use Rattle.std.proofs.Math.Bool.{and-false}
 
 -- ---- lists
 
@@ -56,10 +57,6 @@ in_table xs p r off h = elim (cases_Bool (nat_lt r (length xs))) [
   | inr late ↦ let z : ⊥ = cc (sym h ∙ off (ltb-false r (length xs) late)) in absurd z
 ]
 
-pub no_and : (b : Bool) → (b && false) ≡ false
-no_and true = refl
-no_and false = refl
-
 -- ---- frames
 
 module _ {A : Type 0} (S : State A) where
@@ -86,7 +83,7 @@ module _ {A : Type 0} (S : State A) where
   pub held_there : (q r : ℕ) → is_held_from S q r ≡ true → Has r (held_from S q)
   held_there q r h =
       in_table S.requests.all (is_held_from S q) r
-      (λ late. ap (λ (x : Request). same_id (origin_of S.requests r) q && held_at (is_forgotten S.targets r) x.place) (entry_past no_request S.requests.all r late) ∙ no_and (same_id (origin_of S.requests r) q))
+      (λ late. ap (λ (x : Request). same_id (origin_of S.requests r) q && held_at (is_forgotten S.targets r) x.place) (entry_past no_request S.requests.all r late) ∙ and-false (same_id (origin_of S.requests r) q))
       h
 
   pub placed_there : (test : Place → Bool) (r : ℕ) → test place.Done ≡ false → test (place_of S.requests r) ≡ true → Has r (requests_where S test)
@@ -97,7 +94,7 @@ module _ {A : Type 0} (S : State A) where
 
   pub child_there : (p x : ℕ) → is_child S.tree p x ≡ true → Has x (children S.tree p)
   child_there p x h =
-      in_table S.tree.nodes (is_child S.tree p) x (λ late. ap (λ (n : Node). n.parent.0 == p && not (is_gone n.life)) (entry_past gone S.tree.nodes x late) ∙ no_and (gone.parent.0 == p)) h
+      in_table S.tree.nodes (is_child S.tree p) x (λ late. ap (λ (n : Node). n.parent.0 == p && not (is_gone n.life)) (entry_past gone S.tree.nodes x late) ∙ and-false (gone.parent.0 == p)) h
 
 -- ---- a lock that is held
 
