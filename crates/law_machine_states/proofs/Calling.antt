@@ -1,9 +1,7 @@
 -- At each event of a run with a call: the call has the objects that its row asks for. They haven't ended, and nothing from
 -- there upwards was cleaned up, but for the calls that may come late.
-use Rattle.std.proofs.Common.{◌≡◌, ◌≢◌, ℕ, zero, suc, ◌==◌, true, false, not, ◌&&◌, List, Some, None, inl, inr, slice_get, take, refl, sym, ap, subst, ◌∙◌}
-use Rattle.std.proofs.lemmas.Bool.{cases_Bool, false_from_ne_true}
+use Rattle.std.proofs.Common.{◌≡◌, ℕ, true, false, List, Some, None, slice_get, take, refl, subst, ◌∙◌}
 use Rattle.wdf_base.specs.Meaning.{Meaning}
-use Rattle.wdf_base.specs.Resolved.{IsResolved}
 use Rattle.wdf_base.specs.declared.plan.Plan.{Plan}
 use Rattle.wdf_base.specs.declared.call.Call.{Call}
 use Rattle.wdf_base.specs.declared.event.Event.{Event}
@@ -14,30 +12,24 @@ use Rattle.wdf_base.specs.declared.object.Life.{Life}
 use Rattle.wdf_base.specs.declared.object.Life.TheVariants as life
 use Rattle.wdf_base.specs.Calls.{signature_of}
 use Rattle.wdf_base.specs.Lives.{is_cleaned, is_gone, is_past_cleanup}
-use Rattle.wdf_model.specs.parts.Tree.{life_of, parent_of}
+use Rattle.wdf_model.specs.parts.Tree.{life_of}
 use Rattle.wdf_model.specs.State.{State}
 use Rattle.wdf_model.specs.rules.Faults.{call_faults}
 use Rattle.wdf_model.specs.rules.Steps.{may, view_of}
 use Rattle.wdf_model.specs.rules.Ready.{IsRunOf, state_after}
-use Rattle.wdf_model.proofs.Counts.{equal}
-use Rattle.wdf_model.proofs.Tests.{all_three, left_fails, right_fails}
+use Rattle.wdf_model.proofs.Tests.{all_three}
 use Rattle.wdf_laws.specs.declared.sign.Sign.TheVariants as sign
 use Rattle.wdf_laws.specs.Family.{cleaned_above, most_above}
 use Rattle.wdf_laws.specs.Family as law
 use Rattle.wdf_laws.specs.Words.{ever}
 use Rattle.law_machine_base.proofs.OwnEvents.{did_tells, waiting_tells, woke_tells}
-use Rattle.law_machine_lives.proofs.Choices.{or_not}
-use Rattle.law_machine_lives.proofs.CleanedOver.{in_order_at_each}
 use Rattle.law_machine_lives.proofs.Keeping.{comes}
 use Rattle.law_machine_lives.proofs.Lives.{early_there}
 use Rattle.law_machine_lives.proofs.SoundEvents.{top_on}
 use Rattle.law_trace_once.proofs.Ends.{cleanup_tells, end_tells, never, told_at_each}
-use Rattle.law_trace_families.proofs.Families.{family_at_each}
-use Rattle.law_trace_families.proofs.Gone.{cleaned_told}
-use Rattle.law_trace_families.proofs.Orders.{At_later, At_never, At_now, at_place, later_live}
+use Rattle.law_trace_families.proofs.Orders.{closed_at, none_above}
 use Rattle.law_machine_states.specs.Naming.{call_of, has_object, has_objects, may_come_late, names}
 use Rattle.law_machine_states.proofs.Naming.{IsNameable, late_rows, nameable, none_asked, objects_there}
-use Rattle.law_machine_states.proofs.Parents.{kin_at_each}
 use Rattle.law_machine_states.proofs.Waiting.{Awaited, awaited_at_each, names_first}
 
 neither : (l : Life) → is_cleaned l ≡ false → is_gone l ≡ false → is_past_cleanup l ≡ false
@@ -92,31 +84,6 @@ module _ {A : Type 0} (plan : Plan) (m : Meaning A) (run : List Event) (is_run :
   not_cleaned : (o : ℕ) → is_past_cleanup (life_of S.tree o) ≡ false → ever (sign.Cleaned o) (take n run) ≡ false
   not_cleaned o early = never is_past_cleanup sign.Cleaned (take n run) S o (told_at_each is_past_cleanup sign.Cleaned plan m (cleanup_tells plan m) run is_run n) early (ever (sign.Cleaned o) (take n run)) refl
 
-  module _ (resolved : IsResolved plan) where
-    -- where an object isn't cleaned up, its parent isn't
-    parent_uncleaned : (o : ℕ) → ever (sign.Cleaned o) (take n run) ≡ false → law.parent_of plan run o ≢ 0 → ever (sign.Cleaned (law.parent_of plan run o)) (take n run) ≡ false
-    parent_uncleaned o h some_ = elim (at_place plan run n o S.tree (family_at_each plan m run is_run n)) [
-      | At_now known parent ↦
-          let early : is_past_cleanup (life_of S.tree o) ≡ false = false_from_ne_true (is_past_cleanup (life_of S.tree o)) (λ late. let yes_ = cleaned_told plan m run is_run n o known late in let z : ⊥ = cc in z) in
-          let there : is_gone (life_of S.tree o) ≡ false = early_there (life_of S.tree o) early in
-          let up : parent_of S.tree o ≡ law.parent_of plan run o = parent there in
-          let above : is_past_cleanup (life_of S.tree (parent_of S.tree o)) ≡ false = neither (life_of S.tree (parent_of S.tree o)) (in_order_at_each plan m run is_run n o early) (kin_at_each plan m run resolved is_run n o there (λ z. some_ (sym up ∙ z))) in
-          not_cleaned (law.parent_of plan run o) (subst (λ x. is_past_cleanup (life_of S.tree x) ≡ false) up above)
-      | At_later t none is above ↦ subst (λ x. ever (sign.Cleaned x) (take n run) ≡ false) (sym above) (later_live plan m run n o t is_run none is)
-      | At_never free none above ↦ absurd (some_ above)
-    ]
-
-    none_above : (j o : ℕ) → ever (sign.Cleaned o) (take n run) ≡ false → cleaned_above plan run (take n run) j o ≡ false
-    none_above zero o h = refl
-    none_above (suc j) o h =
-        let p : ℕ = law.parent_of plan run o in
-        or_not (ever (sign.Cleaned o) (take n run)) (not (p == 0) && cleaned_above plan run (take n run) j p) h
-        (elim (cases_Bool (p == 0)) [
-          | inl root ↦ left_fails (not (p == 0)) (cleaned_above plan run (take n run) j p) (ap not root)
-          | inr above ↦ right_fails (not (p == 0)) (cleaned_above plan run (take n run) j p)
-              (none_above j p (parent_uncleaned o h (λ e. let z : (p == 0) ≡ true = equal p 0 e in let w : ⊥ = cc in w)))
-        ])
-
-    pub nothing_cleaned_above : (e : Event) (c : Call) (o : ℕ) → slice_get run n ≡ Some e → call_of e ≡ Some c → names c o ≡ true → may_come_late c.kind ≡ false → cleaned_above plan run (take n run) (most_above plan run) o ≡ false
-    nothing_cleaned_above e c o at is named late =
-        none_above (most_above plan run) o (not_cleaned o (((apt_at e c at is).1 o named).early (late_rows c.kind ∙ late)))
+  pub nothing_cleaned_above : (e : Event) (c : Call) (o : ℕ) → slice_get run n ≡ Some e → call_of e ≡ Some c → names c o ≡ true → may_come_late c.kind ≡ false → cleaned_above plan run (take n run) (most_above plan run) o ≡ false
+  nothing_cleaned_above e c o at is named late =
+      none_above plan run (take n run) (closed_at plan m run is_run n) (most_above plan run) o (not_cleaned o (((apt_at e c at is).1 o named).early (late_rows c.kind ∙ late)))

@@ -49,7 +49,7 @@ pub fn waits_before_cleanup<A>()
 pub fn calls_name_what_is_there<A>()
     ensures objects { (plan : Plan) (m : Meaning A) (run : List Event) → IsRunOf plan m run → (n : ℕ) (e : Event) (c : Call) → slice_get run n ≡ Some e → call_of e ≡ Some c → has_objects (state_after plan m (take n run)).tree c ≡ true }
     ensures ended { (plan : Plan) (m : Meaning A) (run : List Event) → IsRunOf plan m run → (n : ℕ) (e : Event) (c : Call) (o : ℕ) → slice_get run n ≡ Some e → call_of e ≡ Some c → names c o ≡ true → ever (sign.Destroyed o) (take n run) ≡ false }
-    ensures cleaned { (plan : Plan) (m : Meaning A) (run : List Event) → IsResolved plan → IsRunOf plan m run → (n : ℕ) (e : Event) (c : Call) (o : ℕ) → slice_get run n ≡ Some e → call_of e ≡ Some c → names c o ≡ true → may_come_late c.kind ≡ false → cleaned_above plan run (take n run) (most_above plan run) o ≡ false }
+    ensures cleaned { (plan : Plan) (m : Meaning A) (run : List Event) → IsRunOf plan m run → (n : ℕ) (e : Event) (c : Call) (o : ℕ) → slice_get run n ≡ Some e → call_of e ≡ Some c → names c o ≡ true → may_come_late c.kind ≡ false → cleaned_above plan run (take n run) (most_above plan run) o ≡ false }
 {}
 
 /// At each place of every run, all objects below a cleaned one are cleaned or gone.

@@ -1,14 +1,12 @@
 -- The handlers of an id, from a table of all of them.
-use Rattle.std.proofs.Common.{if◌then◌else◌, ◌≡◌, ◌+◌, ◌<◌, ◌≤◌, ◌++◌, get_or, ℕ, zero, suc, Bool, List, [], ◌∷◌, length, map, slice_get, Option, Some, None, refl, sym, ap, subst, ◌∙◌, arith}
+use Rattle.std.proofs.Common.{◌≡◌, ◌+◌, ◌<◌, ◌≤◌, ◌++◌, get_or, ℕ, zero, suc, List, [], ◌∷◌, length, map, slice_get, None, refl, sym, ap, subst, ◌∙◌, arith}
 use Rattle.std.specs.List.{range_with_len}
 use Rattle.std.proofs.lemmas.List.FromFn.{get_or-map-range_with_len, length-map-range_with_len, map-range_with_len_more}
-use Rattle.wdf_base.specs.declared.call.Callback.TheVariants as callback
-use Rattle.wdf_base.specs.declared.declared.Declared.{Declared}
 use Rattle.wdf_base.specs.declared.object.RequestForm.{RequestForm}
 use Rattle.wdf_base.specs.declared.object.RequestForm.TheVariants as form
 use Rattle.wdf_base.specs.declared.plan.Plan.{Plan}
 use Rattle.wdf_base.specs.Plan.{declared_of}
-use Rattle.wdf_model.specs.Plans.{declares, handler_for, typed_handler}
+use Rattle.wdf_model.specs.Plans.{handler_for}
 use Rattle.wdf_plan_index.specs.Handlers.{handlers_at, handlers_of, of}
 use Rattle.wdf_plan_index.specs.declared.handlers.Handlers.{Handlers}
 

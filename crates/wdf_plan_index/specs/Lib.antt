@@ -3,4 +3,5 @@ pub mod Handlers
 pub mod Keys
 pub mod Owners
 pub mod Places
+pub mod Serving
 pub mod Tables

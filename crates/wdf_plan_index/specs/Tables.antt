@@ -5,6 +5,7 @@ use Rattle.wdf_model.specs.Plans.{devices_of, targets_of}
 use Rattle.wdf_plan_index.specs.Handlers.{handlers_of}
 use Rattle.wdf_plan_index.specs.Keys.{devices_over, script_names}
 use Rattle.wdf_plan_index.specs.Owners.{names_of}
+use Rattle.wdf_plan_index.specs.Serving.{serving_of}
 use Rattle.wdf_plan_index.specs.declared.owners.Owner.TheVariants as owner
 use Rattle.wdf_plan_index.specs.declared.tables.Tables.{Tables}
 
@@ -17,3 +18,4 @@ pub record AreTables (plan : Plan) (tables : Tables) : Type 0 where
   pub scripts : tables.script_names ≡ script_names plan
   pub belongings : tables.belongings ≡ devices_over plan
   pub handlers : tables.handlers.items ≡ handlers_of plan
+  pub serving : tables.serving.items ≡ serving_of plan (devices_of plan)

@@ -1,10 +1,11 @@
 //! Queues by id.
-ghost use Rattle.std.specs.Prelude.{◌≡◌, option_map, find};
+ghost use Rattle.std.specs.Prelude.{◌≡◌, option_map};
 ghost use Rattle.wdf_model.specs.Plans as plans;
 ghost use Rattle.wdf_model.specs.rules.Posts as posts;
 
 use crate::indexed::IndexedPlan;
-use wdf_base::{DispatchKind, ObjectId, QueueInfo, RequestForm};
+use crate::serving::serving_queue;
+use wdf_base::{DispatchKind, ObjectId, RequestForm};
 
 impl IndexedPlan {
     /// The device of a queue; the id 0 for what is none.
@@ -47,38 +48,15 @@ impl IndexedPlan {
         self.queue_of(q).is_some_and(|queue| queue.zero)
     }
 
-    /// Whether an id is that of a queue of this device.
-    pub fn is_queue_of(&self, device: ObjectId, q: ObjectId) -> bool
-        ensures { result ≡ plans.is_queue_of device.0 (plans.queue_of self.now q.0) }
-    {
-        self.queue_of(q)
-            .is_some_and(|queue| queue.device.0 == device.0)
-    }
-
-    /// The queue of a device for a type of requests, else its default queue, if there is one. (KMDF)
+    /// The queue of a device for a type of requests, else its default queue, if there is one. (KMDF) It is looked
+    /// up in a table. Only for an id that is no device's it walks along what names that id as its device.
     pub fn queue_for(&self, device: ObjectId, form: RequestForm) -> Option<ObjectId>
         ensures { option_map (λ q. q.0) result ≡ plans.queue_for self.now device.0 form }
     {
-        match self.serving(device, form) {
-            Some(q) => Some(q),
-            None => self.serving_rest(device),
+        match self.tables.devices.first(device.0) {
+            Some(place) => self.tables.serving[place as usize].of(form).map(ObjectId),
+            None => serving_queue(&self.plan, &self.tables.belongings, device, form),
         }
-    }
-
-    /// The first queue of a device for a type of requests.
-    fn serving(&self, device: ObjectId, form: RequestForm) -> Option<ObjectId>
-        ensures { option_map (λ q. q.0) result ≡ find (λ q. plans.serves form (plans.queue_of self.now q)) (plans.queues_of self.now device.0) }
-    {
-        self.queues_of(device)
-            .find(|q| serves(form, self.queue_of(*q)))
-    }
-
-    /// The first default queue of a device.
-    fn serving_rest(&self, device: ObjectId) -> Option<ObjectId>
-        ensures { option_map (λ q. q.0) result ≡ find (λ q. plans.serves_rest (plans.queue_of self.now q)) (plans.queues_of self.now device.0) }
-    {
-        self.queues_of(device)
-            .find(|q| serves_rest(self.queue_of(*q)))
     }
 }
 
@@ -97,29 +75,5 @@ fn is_parallel(dispatch: DispatchKind) -> bool
     match dispatch {
         DispatchKind::Parallel(_) => true,
         _ => false,
-    }
-}
-
-/// Whether a queue is the one for a type of requests.
-fn serves(form: RequestForm, queue: Option<QueueInfo>) -> bool
-    ensures { result ≡ plans.serves form queue }
-{
-    let Some(queue) = queue else {
-        return false;
-    };
-    match form {
-        RequestForm::Read => queue.serves.read,
-        RequestForm::Write => queue.serves.write,
-        RequestForm::Control => queue.serves.control,
-    }
-}
-
-/// Whether a queue is its device's default queue.
-fn serves_rest(queue: Option<QueueInfo>) -> bool
-    ensures { result ≡ plans.serves_rest queue }
-{
-    match queue {
-        None => false,
-        Some(queue) => queue.serves.rest,
     }
 }

@@ -5,6 +5,7 @@ use crate::handlers::{Handlers, handlers_of};
 use crate::keys::{devices_over, script_names};
 use crate::owners::{Owner, ids_of};
 use crate::places::Places;
+use crate::serving::{Serving, serving_of};
 use std::alloc::Global;
 use wdf_base::{Memory, Plan};
 
@@ -21,6 +22,8 @@ pub(crate) struct Tables {
     pub(crate) belongings: Places,
     /// The handlers of each id.
     pub(crate) handlers: Vec<Handlers>,
+    /// The queues that take what arrives at each device, in the order of the devices.
+    pub(crate) serving: Vec<Serving>,
 }
 
 /// The tables of a plan.
@@ -36,11 +39,13 @@ pub(crate) fn tables_of(alloc: Global, plan: &Plan) -> Result<Tables, Memory>
     let over = devices_over(alloc, plan)?;
     let belongings = Places::make(alloc, over, plan.declared_len().saturating_add(1))?;
     let handlers = handlers_of(alloc, plan, &script_names)?;
+    let serving = serving_of(alloc, plan, &belongings, &devices)?;
     Ok(Tables {
         devices,
         targets,
         script_names,
         belongings,
         handlers,
+        serving,
     })
 }

@@ -9,4 +9,4 @@ pub returns-clause-ended : goal.returns-clause-ended
 returns-clause-ended g c = λ plan m run is_run n e call o at is named. not_ended plan m run is_run n e call o at is named
 
 pub returns-clause-cleaned : goal.returns-clause-cleaned
-returns-clause-cleaned g c = λ plan m run resolved is_run n e call o at is named late. nothing_cleaned_above plan m run is_run n resolved e call o at is named late
+returns-clause-cleaned g c = λ plan m run is_run n e call o at is named late. nothing_cleaned_above plan m run is_run n e call o at is named late

@@ -3,6 +3,7 @@ use Rattle.std.proofs.Common.{◌≡◌, length, ap, ◌∙◌, arith}
 use Rattle.std.proofs.lemmas.List.{length-map}
 use Rattle.wdf_plan_index.specs.Keys.{script_name}
 use Rattle.wdf_plan_index.specs.Owners.{name_of}
+use Rattle.wdf_plan_index.specs.Serving.{serving_of}
 use Rattle.wdf_plan_index.specs.declared.owners.Owner.TheVariants as owner
 use Rattle.wdf_plan_index.proofs.Gathering.{kept_few}
 use Rattle.wdf_plan_index.proofs.Owning.{device_ids, target_ids}
@@ -25,4 +26,5 @@ returns c = record {
   scripts = c.in_ok-script_names.ensures ∙ c.in_ok-names.ensures;
   belongings = c.in_ok-belongings.ensures ∙ c.in_ok-over.ensures;
   handlers = c.in_ok-handlers.ensures;
+  serving = c.in_ok-serving.ensures ∙ ap (serving_of c.args.plan.now) (c.in_ok-devices.ensures ∙ c.in_ok-ids.ensures.ids ∙ device_ids c.args.plan.now);
 }

@@ -1,5 +1,5 @@
 -- The table has it, or the id is past what is declared.
-use Rattle.std.proofs.Common.{◌≡◌, ◌<◌, ◌≤◌, length, get_or, subst, ap, ◌∙◌}
+use Rattle.std.proofs.Common.{ap, ◌∙◌}
 use Rattle.wdf_base.specs.declared.plan.Plan.{Plan}
 use Rattle.wdf_model.specs.Plans.{handler_for}
 use Rattle.wdf_plan_index.proofs.Handling.{handler_kept, handler_none}
