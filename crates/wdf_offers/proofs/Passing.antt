@@ -193,6 +193,17 @@ module _ {T : Type 0} (test : T → Bool) (all some rest : List T) (count : ℕ)
   pub none_in : (n : ℕ) → HasNone test some n → NoneBefore test all (count + n)
   none_in n h = let e = h.0 in none_further n (omega arith) h.1
 
+  -- the first of the next ones is the first of all
+  pub first_in_whole : (place : ℕ) → IsFirst test some place → IsFirst test all (count + place)
+  first_in_whole place h =
+      let below = within some place h.item h.at in
+      record {
+        item = h.item;
+        at = at_rest all (some ++ rest) count place (count + place) passed refl ∙ at_start some rest place below ∙ h.at;
+        passes = h.passes;
+        before = none_further place (omega arith) h.before;
+      }
+
   pub first_of : (place : ℕ) → IsFirst test some place → position test all ≡ Some (count + place)
   first_of place h =
       let k = first_in_whole place h in
