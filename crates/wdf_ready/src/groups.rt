@@ -95,7 +95,7 @@ fn is_startable(plan: &IndexedPlan, rank: Rank, object: ObjectId) -> bool
 fn startable(alloc: Global, plan: &IndexedPlan, rank: Rank) -> Result<Vec<u32>, Memory>
     ensures { IfOk result (λ ids. ids.items ≡ blocks.startable plan.now rank) }
 {
-    let mut ids = Vec::new(alloc)?;
+    let mut ids = Vec::new(alloc);
     for k in 0..plan.declared_len() {
         if is_startable(plan, rank, ObjectId(k + 1)) {
             ids.push(k + 1)?;

@@ -1,5 +1,5 @@
 -- Where the callbacks of a rank rest on a processor, nothing may come of them.
-use Rattle.std.proofs.Common.{Bool, true, false, not, ◌||◌, ◌==◌, ℕ, ◌≡◌, List, [], ◌∷◌, find, length, None, refl, ◌∙◌, arith}
+use Rattle.std.proofs.Common.{Bool, true, false, not, ◌==◌, ℕ, ◌≡◌, List, [], ◌∷◌, find, length, None, refl, ◌∙◌, arith}
 use Rattle.std.specs.Prelude.{nat_le}
 use Rattle.std.proofs.lemmas.Bool.{eqb-true}
 use Rattle.wdf_base.specs.Meaning.{Meaning}
@@ -16,7 +16,7 @@ use Rattle.wdf_offers.specs.declared.for_requests.Herd.TheVariants as herd
 use Rattle.wdf_offers.specs.ForRequests.{IsExact, can_be, herd_of, is_counted, is_due_for, rank_of, whole}
 use Rattle.wdf_offers.specs.Idle.{is_due_at}
 use Rattle.wdf_offers.specs.Leaving.{IsSettled}
-use Rattle.wdf_offers.specs.Resting.{none_counted, rests}
+use Rattle.wdf_offers.specs.Resting.{none_counted}
 use Rattle.wdf_offers.specs.Search.{offered_from}
 use Rattle.wdf_offers.proofs.Cancels.{not_on}
 use Rattle.wdf_offers.proofs.HerdWalk.{none_of}
@@ -53,17 +53,14 @@ module _ {A : Type 0} (plan : Plan) (m : Meaning A) (S : State A) (settled : IsS
     herd_off : (h : Herd) → (length (whole h S) == 0) ≡ true → (q : ℕ) → offered_from plan m S (group.StartsFor cpu (rank_of h) q) 0 ≡ []
     herd_off h e q = nothing_there plan m S (group.StartsFor cpu (rank_of h) q) (λ k. not_due plan m S cpu (rank_of h) q k (due_off h (eqb-true (length (whole h S)) 0 e) q k))
 
-    counted_off : (r : Rank) → none_counted S (herd_of r) ≡ true → (o : ℕ) → offered_from plan m S (group.StartsFor cpu r o) 0 ≡ []
+    -- where none is counted for the callbacks of a rank, nothing may come of them
+    pub counted_off : (r : Rank) → none_counted S (herd_of r) ≡ true → (o : ℕ) → offered_from plan m S (group.StartsFor cpu r o) 0 ≡ []
     counted_off rank.Cancel e o = herd_off herd.Cancel e o
     counted_off rank.CanceledOnQueue e o = herd_off herd.Return e o
     counted_off rank.Stop e o = herd_off herd.Stop e o
     counted_off rank.Resume e o = herd_off herd.Resume e o
     counted_off _ e o = absurd (let z : ⊥ = cc in z)
 
-    rests_by : (r : Rank) (b : Bool) → not (level_fits S cpu 2) ≡ b → (b || none_counted S (herd_of r)) ≡ true → (o : ℕ) → offered_from plan m S (group.StartsFor cpu r o) 0 ≡ []
-    rests_by r true high e o = nothing_there plan m S (group.StartsFor cpu r o) (λ k. too_high_for plan m S cpu r o k 2 (for_low plan r o) high)
-    rests_by r false high e o = counted_off r e o
-
-    -- of what rests nothing may come
-    pub resting : (r : Rank) → rests S cpu r ≡ true → (o : ℕ) → offered_from plan m S (group.StartsFor cpu r o) 0 ≡ []
-    resting r e o = rests_by r (not (level_fits S cpu 2)) refl e o
+    -- nor where the level is too high
+    pub high_off : (r : Rank) → not (level_fits S cpu 2) ≡ true → (o : ℕ) → offered_from plan m S (group.StartsFor cpu r o) 0 ≡ []
+    high_off r high o = nothing_there plan m S (group.StartsFor cpu r o) (λ k. too_high_for plan m S cpu r o k 2 (for_low plan r o) high)
