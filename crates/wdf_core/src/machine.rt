@@ -23,8 +23,8 @@ use wdf_base::{Actor, Agent, Ending, Event, Fault, Memory, Plan};
 use wdf_parts::Parts;
 use wdf_plan_index::IndexedPlan;
 use wdf_ready::{
-    Blocks, KeptCounts, Side, allowed_at, any_own, blocks_of, first_by, first_of, is_allowed, is_by,
-    is_of, is_open, waits_for_time,
+    Blocks, KeptCounts, Side, allowed_at, any_own, blocks_of, first_by, first_of, is_allowed,
+    is_by, is_of, is_open, waits_for_time,
 };
 use wdf_same::same_event;
 use wdf_steps::step;

@@ -18,8 +18,8 @@ pub use candidates::{
     stage_at, start_for, unparks,
 };
 pub use direct::{
-    cleanup_offered, completion_offered, completions_len, end_offered, own_at, own_len,
-    park_at, park_len,
+    cleanup_offered, completion_offered, completions_len, end_offered, own_at, own_len, park_at,
+    park_len,
 };
 pub use due::{next_due, next_startable};
 pub use for_requests::{Herd, herd_at, herd_len, herd_of};

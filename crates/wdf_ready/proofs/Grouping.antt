@@ -1,5 +1,5 @@
 -- The groups of candidates, in blocks: one more of each loop, and how many there are.
-use Rattle.std.proofs.Common.{if◌then◌else◌, ◌&&◌, ◌≡◌, ℕ, zero, suc, ◌+◌, ◌*◌, ◌^◌, ◌<◌, ◌≤◌, Bool, true, false, List, [], ◌∷◌, ◌++◌, filter, is_some, get_or, length, map, take, refl, sym, ap, ◌∙◌, arith, append_assoc, length-append}
+use Rattle.std.proofs.Common.{if◌then◌else◌, ◌&&◌, ◌⊎◌, inl, inr, ◌≡◌, ℕ, zero, suc, ◌+◌, ◌*◌, ◌^◌, ◌<◌, ◌≤◌, Bool, true, false, List, [], ◌∷◌, ◌++◌, filter, is_some, get_or, length, map, take, refl, sym, ap, ◌∙◌, arith, append_assoc, length-append}
 use Rattle.std.specs.List.{flat_map, range_with_len}
 use Rattle.std.proofs.lemmas.Grind.{flat_map-append}
 use Rattle.std.proofs.lemmas.List.{take_more}
@@ -95,20 +95,16 @@ IsForObjects plan cpu r = groups_for cpu r (objects_of (lists_of plan) r) ≡ fi
 for_objects : (plan : Plan) (cpu : ℕ) (r : Rank) (p : ℕ → Bool) → groups_for cpu r (filter (λ x. p x && can_start_for plan r x) (declared_ids plan)) ≡ filter (has_places plan) (groups_for cpu r (filter p (declared_ids plan)))
 for_objects plan cpu r p = sym (kept_groups plan cpu r (filter p (declared_ids plan)) ∙ ap (groups_for cpu r) (both_kept p (can_start_for plan r) (declared_ids plan)))
 
-pub for_targets : (plan : Plan) (cpu : ℕ) → IsForObjects plan cpu rank.Completion
-for_targets plan cpu = for_objects plan cpu rank.Completion (λ id. is_some (target_of plan id))
+-- it is a rank for requests
+abbrev pub IsForRequests : Rank → Type 0
+IsForRequests r = (r ≡ rank.Completion) ⊎ ((r ≡ rank.Cancel) ⊎ ((r ≡ rank.CanceledOnQueue) ⊎ ((r ≡ rank.Stop) ⊎ (r ≡ rank.Resume))))
 
-pub for_cancels : (plan : Plan) (cpu : ℕ) → IsForObjects plan cpu rank.Cancel
-for_cancels plan cpu = for_objects plan cpu rank.Cancel (λ id. is_some (queue_of plan id))
-
-pub for_returns : (plan : Plan) (cpu : ℕ) → IsForObjects plan cpu rank.CanceledOnQueue
-for_returns plan cpu = for_objects plan cpu rank.CanceledOnQueue (λ id. is_some (queue_of plan id))
-
-pub for_stops : (plan : Plan) (cpu : ℕ) → IsForObjects plan cpu rank.Stop
-for_stops plan cpu = for_objects plan cpu rank.Stop (λ id. is_some (queue_of plan id))
-
-pub for_resumes : (plan : Plan) (cpu : ℕ) → IsForObjects plan cpu rank.Resume
-for_resumes plan cpu = for_objects plan cpu rank.Resume (λ id. is_some (queue_of plan id))
+pub for_rank : (plan : Plan) (cpu : ℕ) (r : Rank) → IsForRequests r → IsForObjects plan cpu r
+for_rank plan cpu r (inl e) = rw e (for_objects plan cpu rank.Completion (λ id. is_some (target_of plan id)))
+for_rank plan cpu r (inr (inl e)) = rw e (for_objects plan cpu rank.Cancel (λ id. is_some (queue_of plan id)))
+for_rank plan cpu r (inr (inr (inl e))) = rw e (for_objects plan cpu rank.CanceledOnQueue (λ id. is_some (queue_of plan id)))
+for_rank plan cpu r (inr (inr (inr (inl e)))) = rw e (for_objects plan cpu rank.Stop (λ id. is_some (queue_of plan id)))
+for_rank plan cpu r (inr (inr (inr (inr e)))) = rw e (for_objects plan cpu rank.Resume (λ id. is_some (queue_of plan id)))
 
 -- ---- one piece more
 

@@ -110,7 +110,3 @@ IsSmall r groups = MatchResult r (λ place. place ≤ groups * 2 ^ 32) (λ count
 
 pub small_enough : (r : Result ℕ ℕ) (n groups : ℕ) → n ≡ groups → IsSmall r n → IsSmall r groups
 small_enough r n groups same small = subst (IsSmall r) same small
-
--- none is the actor's where there is none at all
-pub none_at_all : (who : Actor) (es : List Event) → es ≡ [] → HasNone (is_by who) es 0
-none_at_all who es none = (ap length none, λ j x low. absurd (omega (arith, low)))

@@ -146,7 +146,6 @@ fn first_in_block<A: Agent>(
     actor: Actor,
 ) -> Result<usize, usize>
     requires agents { length parts.now.agents ≤ 2 ^ 16 }
-    requires settled { IsSettled plan.now parts.now }
     requires few { length (blocks.groups_in all.now.objects block) < 2 ^ 20 }
     ensures first { MatchResult result (search.IsFirst (actors.is_by actor) (blocks.events_in plan.now A.meaning parts.now all.now.objects block))
         (search.HasNone (actors.is_by actor) (blocks.events_in plan.now A.meaning parts.now all.now.objects block)) }
@@ -156,9 +155,6 @@ fn first_in_block<A: Agent>(
     match block {
         Block::One(group) => first_in(plan, parts, group, actor),
         Block::ForEach { cpu, rank } => {
-            if rests(plan, parts, Cpu(cpu), rank) {
-                return Err(0);
-            }
             first_of_each(plan, parts, cpu, rank, all.objects_of(rank), actor)
         }
     }
@@ -186,7 +182,7 @@ pub fn allowed_at<A: Agent>(
 }
 
 /// The place of the first event of an actor among those that may come of all these groups; `None` exactly
-/// where there is none.
+/// where there is none. It goes along each group.
 pub fn first_by<A: Agent>(
     plan: &IndexedPlan,
     parts: &Parts<A>,
@@ -194,7 +190,6 @@ pub fn first_by<A: Agent>(
     actor: Actor,
 ) -> Option<usize>
     requires agents { length parts.now.agents ≤ 2 ^ 16 }
-    requires settled { IsSettled plan.now parts.now }
     requires few { length (all_of all.now) < 2 ^ 20 }
     ensures { result ≡ position (actors.is_by actor) (search.events_of plan.now A.meaning parts.now (all_of all.now)) }
 {

@@ -50,11 +50,11 @@ impl Model for Objects {
     ghost Value = { ObjectLists };
 
     ghost view = { λ o. record {
-        targets = o.targets.items;
-        cancels = o.cancels.items;
-        returns = o.returns.items;
-        stops = o.stops.items;
-        resumes = o.resumes.items;
+      targets = o.targets.items;
+      cancels = o.cancels.items;
+      returns = o.returns.items;
+      stops = o.stops.items;
+      resumes = o.resumes.items;
     } };
 }
 

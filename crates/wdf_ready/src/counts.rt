@@ -112,7 +112,15 @@ impl KeptCounts {
     {
         let mut left = k;
         for at in 0..all.len() {
-            match event_of(plan, parts, all, all.at(at), self.stale, self.each[at], left) {
+            match event_of(
+                plan,
+                parts,
+                all,
+                all.at(at),
+                self.stale,
+                self.each[at],
+                left,
+            ) {
                 Ok(event) => return Some(event),
                 Err(rest) => left = rest,
             }

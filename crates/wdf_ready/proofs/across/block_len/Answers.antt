@@ -23,12 +23,12 @@ each_len-requires-clause-few g c =
     let few = c.requires.few in
     omega (arith, many, few)
 
-pub returns-in-ForEach-clause-length : goal.returns-in-ForEach-clause-length
-returns-in-ForEach-clause-length g c =
+pub returns-else-rests-clause-length : goal.returns-else-rests-clause-length
+returns-else-rests-clause-length g c =
     c.each_len.ensures.length ∙ sym (ap length (in_each c.args.plan.now g.A.Agent.meaning c.args.parts.now c.args.all.now.objects c.args.block _ _ _ c.in-ForEach.is c.objects_of.ensures))
 
-pub returns-in-ForEach-clause-small : goal.returns-in-ForEach-clause-small
-returns-in-ForEach-clause-small g c =
+pub returns-else-rests-clause-small : goal.returns-else-rests-clause-small
+returns-else-rests-clause-small g c =
     let many = each_groups c.args.all.now.objects c.args.block _ _ _ c.in-ForEach.is c.objects_of.ensures in
     let small = c.each_len.ensures.small in
     omega (arith, many, small)

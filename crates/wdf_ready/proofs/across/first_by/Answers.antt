@@ -21,6 +21,18 @@ first_in_block-requires-clause-few g c =
     let few = c.requires.few in
     omega (arith, within, few)
 
+pub overflow_add-result : goal.overflow_add-result
+overflow_add-result g c =
+    let left = fewer_left c.args.all.now.objects c.args.all.now.blocks c.loop-at.at c.loop-at.before c.in-Ok.place _ _ c.at.ensures c.in-Ok.ensures.small c.loop-at.invariant.few in
+    let few = c.requires.few in
+    omega (arith, left, few)
+
+pub overflow_add-before : goal.overflow_add-before
+overflow_add-before g c =
+    let left = fewer_left c.args.all.now.objects c.args.all.now.blocks c.loop-at.at c.loop-at.before c.in-Err.count _ _ c.at.ensures c.in-Err.ensures.small c.loop-at.invariant.few in
+    let few = c.requires.few in
+    omega (arith, left, few)
+
 pub returns-in-Ok : goal.returns-in-Ok
 returns-in-Ok g c =
     let one = events_in c.args.plan.now g.A.Agent.meaning c.args.parts.now c.args.all.now.objects in

@@ -1,7 +1,7 @@
--- In one group, nowhere, or for one of the objects.
+-- In one group, or for one of the objects.
 use Rattle.std.proofs.Common.{◌≡◌, ◌<◌, ◌≤◌, ◌*◌, ◌^◌, ap, sym, subst, length, arith}
 use Rattle.std.specs.Prelude.{MatchResult}
-use Rattle.wdf_ready.proofs.InBlocks.{FirstOrNone, IsSmall, each_groups, in_each, in_one, in_resting, none_at_all, one_group, small_enough}
+use Rattle.wdf_ready.proofs.InBlocks.{FirstOrNone, IsSmall, each_groups, in_each, in_one, one_group, small_enough}
 use Rattle.wdf_ready.proofs.across.first_in_block.Goals as goal
 
 pub returns-in-One-clause-first : goal.returns-in-One-clause-first
@@ -11,10 +11,6 @@ returns-in-One-clause-first g c =
 pub returns-in-One-clause-small : goal.returns-in-One-clause-small
 returns-in-One-clause-small g c =
     small_enough c.first_in.result 1 _ (sym (one_group c.args.all.now.objects c.args.block _ c.in-One.is)) c.first_in.ensures.small
-
-pub returns-then-rests-clause-first : goal.returns-then-rests-clause-first
-returns-then-rests-clause-first g c =
-    none_at_all c.args.actor _ (in_resting c.args.plan.now g.A.Agent.meaning c.args.parts.now c.args.all.now.objects c.args.block _ _ c.in-ForEach.is (c.rests.ensures.none c.if-rests.true))
 
 pub first_of_each-requires-clause-few : goal.first_of_each-requires-clause-few
 first_of_each-requires-clause-few g c =

@@ -1,5 +1,5 @@
 -- The event is for this object, or the object is passed.
-use Rattle.std.proofs.Common.{◌≤◌, sym, subst, ◌∙◌, length, arith}
+use Rattle.std.proofs.Common.{◌+◌, ◌≤◌, sym, subst, ◌∙◌, length, arith}
 use Rattle.std.specs.List.{flat_map}
 use Rattle.wdf_ready.specs.Actors.{is_by}
 use Rattle.wdf_offers.specs.Search.{HasNone, IsFirst}
@@ -11,7 +11,7 @@ pub returns-in-Ok-clause-first : goal.returns-in-Ok-clause-first
 returns-in-Ok-clause-first g c =
     let one = for_object c.args.plan.now g.A.Agent.meaning c.args.parts.now c.args.cpu c.args.rank in
     let at = index_there c.args.objects.now c.loop-object.object-index _ c.loop-object-test.true in
-    subst (λ es. IsFirst (is_by c.args.actor) es _) (sym (each_are c.args.plan.now g.A.Agent.meaning c.args.parts.now c.args.cpu c.args.rank c.args.objects.now))
+    subst (λ es. IsFirst (is_by c.args.actor) es (c.loop-object.before + c.in-Ok.place)) (sym (each_are c.args.plan.now g.A.Agent.meaning c.args.parts.now c.args.cpu c.args.rank c.args.objects.now))
     (first_in_whole (is_by c.args.actor) (flat_map one c.args.objects.now) _ _ c.loop-object.before
     (piece_next one c.args.objects.now (flat_map one c.args.objects.now) c.loop-object.object-index c.loop-object.before _ at c.loop-object.invariant.passed)
     c.loop-object.invariant.none c.in-Ok.place c.in-Ok.ensures.first)

@@ -18,6 +18,13 @@ loop-at-init g c =
       counted = none_counted c.args.plan.now m c.args.parts.now c.args.all.now c.args.stale c.args.each.now.items c.requires.kept;
     }
 
+pub overflow_add-sum : goal.overflow_add-sum
+overflow_add-sum g c =
+    let here = index_there c.args.all.now.blocks c.loop-at.at (block.One group.Posts) (omega (arith, c.loop-at-test.true, c.len-at-end.ensures)) in
+    let left = fewer_left c.args.all.now.objects c.args.all.now.blocks c.loop-at.at c.loop-at.sum c.count_at-count.result _ _ here (c.count_at-count.ensures _ here).1 c.loop-at.invariant.few in
+    let few = c.requires.few in
+    omega (arith, left, few)
+
 pub loop-at-preserved : goal.loop-at-preserved
 loop-at-preserved g c =
     let m = g.A.Agent.meaning in

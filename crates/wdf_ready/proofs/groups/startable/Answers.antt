@@ -5,7 +5,7 @@ use Rattle.wdf_ready.proofs.groups.startable.Goals as goal
 use Rattle.wdf_ready.proofs.groups.startable.Goals.{then-is_startable+in_ok-push, else-is_startable}
 
 pub loop-k-init : goal.loop-k-init
-loop-k-init c = rw c.in_ok-ids.ensures (none_yet c.args.plan.now c.args.rank)
+loop-k-init c = c.new-ids.ensures.items ∙ none_yet c.args.plan.now c.args.rank
 
 pub loop-k-preserved : goal.loop-k-preserved
 loop-k-preserved c =

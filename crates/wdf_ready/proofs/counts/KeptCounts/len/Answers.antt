@@ -33,6 +33,12 @@ len_of-sum-requires-clause-small g c =
     (none_counted c.args.plan.now m c.args.parts.now c.args.all.now c.self.inside.stale c.self.inside.each.items (rw (← c.self.view_is) at c.requires.kept))
     c.at.ensures c.index.ensures
 
+pub overflow_add-sum : goal.overflow_add-sum
+overflow_add-sum g c =
+    let left = fewer_left c.args.all.now.objects c.args.all.now.blocks c.loop-at.at c.loop-at.sum c.len_of-sum.result _ _ c.at.ensures c.len_of-sum.ensures.small c.loop-at.invariant.few in
+    let few = c.requires.few in
+    omega (arith, left, few)
+
 pub loop-at-preserved : goal.loop-at-preserved
 loop-at-preserved g c =
     let one = events_in c.args.plan.now g.A.Agent.meaning c.args.parts.now c.args.all.now.objects in
