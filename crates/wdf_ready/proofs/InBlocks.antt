@@ -15,7 +15,7 @@ use Rattle.wdf_model.specs.State.{State}
 use Rattle.wdf_offers.specs.Search.{HasNone, IsFirst, events_of, offered_from}
 use Rattle.wdf_offers.proofs.Passing.{piece_opens}
 use Rattle.wdf_ready.specs.Actors.{is_by}
-use Rattle.wdf_ready.specs.Blocks.{Grouping, ObjectLists, all_of, events_for, events_in, groups_in, joined, objects_of}
+use Rattle.wdf_ready.specs.Blocks.{ObjectLists, events_for, events_in, groups_in, joined, objects_of}
 use Rattle.wdf_ready.specs.declared.blocks.Block.{Block}
 use Rattle.wdf_ready.specs.declared.blocks.Block.TheVariants as block
 

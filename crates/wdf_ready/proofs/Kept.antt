@@ -1,5 +1,5 @@
 -- The groups that can have places: how many there are, and that the others offer nothing.
-use Rattle.std.proofs.Common.{◌≡◌, ℕ, ◌+◌, ◌<◌, ◌≤◌, Bool, true, false, List, [], ◌∷◌, ◌++◌, None, filter, get_or, length, take, refl, sym, ap, ◌∙◌, arith}
+use Rattle.std.proofs.Common.{◌≡◌, ℕ, ◌≤◌, Bool, true, false, List, [], ◌∷◌, ◌++◌, filter, length, refl, ap, arith}
 use Rattle.wdf_base.specs.Meaning.{Meaning}
 use Rattle.wdf_base.specs.declared.plan.Plan.{Plan}
 use Rattle.wdf_base.specs.declared.rank.Rank.{Rank}
@@ -8,8 +8,8 @@ use Rattle.wdf_model.specs.declared.enums.Group.{Group}
 use Rattle.wdf_model.specs.declared.enums.Group.TheVariants as group
 use Rattle.wdf_model.specs.State.{State}
 use Rattle.wdf_model.specs.Plans.{declares}
-use Rattle.wdf_model.specs.rules.Groups.{callback_for, places_if, places_in}
-use Rattle.wdf_offers.specs.Search.{can_start_for, events_of, has_places, offered, offered_from}
+use Rattle.wdf_model.specs.rules.Groups.{callback_for, places_if}
+use Rattle.wdf_offers.specs.Search.{can_start_for, events_of, has_places, offered_from}
 use Rattle.wdf_offers.proofs.Places.{nothing_there, past}
 use Rattle.wdf_ready.proofs.Undeclared.{never_completes, never_starts}
 

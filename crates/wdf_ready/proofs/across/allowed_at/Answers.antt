@@ -1,5 +1,5 @@
 -- The event is in this block, or the block is passed.
-use Rattle.std.proofs.Common.{◌≡◌, ◌-◌, ◌≤◌, ap, sym, ◌∙◌, length, slice_get, arith}
+use Rattle.std.proofs.Common.{◌-◌, ◌≤◌, ap, sym, ◌∙◌, length, slice_get, arith}
 use Rattle.std.specs.List.{flat_map}
 use Rattle.wdf_ready.specs.Blocks.{events_in}
 use Rattle.wdf_offers.proofs.Passing.{beyond, piece_at, piece_left, pieces_passed}

@@ -1,5 +1,5 @@
 -- A block that has an event gives one to all.
-use Rattle.std.proofs.Common.{◌≡◌, ap, length, arith}
+use Rattle.std.proofs.Common.{ap, length, arith}
 use Rattle.wdf_ready.specs.Blocks.{events_in}
 use Rattle.wdf_ready.proofs.InBlocks.{blocks_are, some_events}
 use Rattle.wdf_ready.proofs.across.any_own.Goals as goal

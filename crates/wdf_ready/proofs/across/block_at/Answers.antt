@@ -1,5 +1,5 @@
 -- In one group, nowhere, or for one of the objects.
-use Rattle.std.proofs.Common.{◌≡◌, ◌+◌, [], ap, sym, subst, length, arith}
+use Rattle.std.proofs.Common.{ap, sym, subst, length, arith}
 use Rattle.wdf_ready.proofs.InBlocks.{AtOrLeft, in_each, in_one, in_resting}
 use Rattle.wdf_ready.proofs.across.block_at.Goals as goal
 

@@ -1,7 +1,6 @@
 -- The event is for this object, or the object is passed.
-use Rattle.std.proofs.Common.{◌≡◌, ◌+◌, ◌-◌, ◌≤◌, ap, sym, ◌∙◌, length, slice_get, arith}
+use Rattle.std.proofs.Common.{◌-◌, ◌≤◌, ap, ◌∙◌, length, slice_get, arith}
 use Rattle.std.specs.List.{flat_map}
-use Rattle.wdf_ready.specs.Blocks.{events_for}
 use Rattle.wdf_offers.proofs.Passing.{all_passed, index_there, piece_at, piece_left, pieces_passed}
 use Rattle.wdf_ready.proofs.InBlocks.{each_are, for_object}
 use Rattle.wdf_ready.proofs.across.each_at.Goals as goal

@@ -1,8 +1,8 @@
 -- The event is in this block, or the block is passed.
-use Rattle.std.proofs.Common.{◌≡◌, ◌+◌, ◌≤◌, ap, sym, ◌∙◌, length, position, arith}
+use Rattle.std.proofs.Common.{◌≤◌, ap, sym, ◌∙◌, length, position, arith}
 use Rattle.std.specs.List.{flat_map}
 use Rattle.wdf_ready.specs.Actors.{is_by}
-use Rattle.wdf_ready.specs.Blocks.{all_of, events_in}
+use Rattle.wdf_ready.specs.Blocks.{events_in}
 use Rattle.wdf_offers.proofs.Passing.{all_passed, first_of, none_at, none_in, nothing_passed, piece_next, pieces_passed, so_many_pass}
 use Rattle.wdf_ready.proofs.InBlocks.{block_within, blocks_are, fewer_left}
 use Rattle.wdf_ready.proofs.across.first_by.Goals as goal

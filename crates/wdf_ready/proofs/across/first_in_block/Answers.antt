@@ -1,7 +1,6 @@
 -- In one group, or for one of the objects.
-use Rattle.std.proofs.Common.{◌≡◌, ◌<◌, ◌≤◌, ◌*◌, ◌^◌, ap, sym, subst, length, arith}
-use Rattle.std.specs.Prelude.{MatchResult}
-use Rattle.wdf_ready.proofs.InBlocks.{FirstOrNone, IsSmall, each_groups, in_each, in_one, one_group, small_enough}
+use Rattle.std.proofs.Common.{sym, subst, arith}
+use Rattle.wdf_ready.proofs.InBlocks.{FirstOrNone, each_groups, in_each, in_one, one_group, small_enough}
 use Rattle.wdf_ready.proofs.across.first_in_block.Goals as goal
 
 pub returns-in-One-clause-first : goal.returns-in-One-clause-first

@@ -1,5 +1,5 @@
 -- The event is for this object, or the object is passed.
-use Rattle.std.proofs.Common.{◌+◌, ◌≤◌, sym, subst, ◌∙◌, length, arith}
+use Rattle.std.proofs.Common.{◌+◌, ◌≤◌, sym, subst, length, arith}
 use Rattle.std.specs.List.{flat_map}
 use Rattle.wdf_ready.specs.Actors.{is_by}
 use Rattle.wdf_offers.specs.Search.{HasNone, IsFirst}
