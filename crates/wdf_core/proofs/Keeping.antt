@@ -1,5 +1,5 @@
--- The counts that an event leaves known stay right: it doesn't touch their groups.
-use Rattle.std.proofs.Common.{false, ◌≡◌, ◌||◌, ℕ, List, [], ◌∷◌, ◌++◌, length, slice_get, Some, refl, sym, ap, ◌∙◌}
+-- The counts that an event leaves known stay right: it doesn't touch the groups of their blocks.
+use Rattle.std.proofs.Common.{false, ◌≡◌, ◌||◌, ◌+◌, ℕ, List, [], ◌∷◌, ◌++◌, append-nil, length, length-append, slice_get, Some, refl, sym, ap, ◌∙◌, arith}
 use Rattle.std.specs.List.{list_any}
 use Rattle.wdf_base.specs.Meaning.{Meaning}
 use Rattle.wdf_base.specs.declared.plan.Plan.{Plan}
@@ -16,8 +16,11 @@ use Rattle.law_machine_base.proofs.Follows.{state_goes_on}
 use Rattle.law_touched.specs.Touched.{AgentStates, TopFrame, has_piece, is_of_time, is_own_of, read_by, touches}
 use Rattle.law_touched.proofs.Law.{local_touches, log_touches, tick_touches}
 use Rattle.law_touched.proofs.Runs.{untouched_in_run}
-use Rattle.wdf_ready.specs.Counts.{Counts, IsKept, Unknown, is_own, is_stale, is_timed, reads_agents, stale_after, stale_by}
-use Rattle.wdf_offers.specs.Search.{offered_len}
+use Rattle.wdf_ready.specs.Blocks.{Grouping, ObjectLists, all_of, block_len, events_for, objects_of}
+use Rattle.wdf_ready.specs.declared.blocks.Block.{Block}
+use Rattle.wdf_ready.specs.declared.blocks.Block.TheVariants as block
+use Rattle.wdf_ready.specs.Counts.{Counts, IsKept, Unknown, has_stale, is_own, is_stale, is_timed, reads_agents, stale_after, stale_by}
+use Rattle.wdf_offers.specs.Search.{offered_from, offered_len}
 use Rattle.wdf_ready.specs.declared.stale.Stale.{Stale}
 use Rattle.wdf_ready.specs.declared.stale.Stale.TheVariants as stale
 use Rattle.wdf_core.specs.Course.{IsUnderWay}
@@ -81,9 +84,22 @@ not_touched plan S (event.Register cpu a k v) g h = no_agents cpu.0 g h
 not_touched plan S (event.Tick time) g h = tick_touches plan S time g ∙ of_time g ∙ h
 not_touched plan S _ g h = absurd (let z : ⊥ = cc in z)
 
+-- a group for requests is stale whatever its object
+not_of_object : (s : Stale) (cpu : ℕ) (r : Rank) (o : ℕ) → is_stale s (group.StartsFor cpu r 0) ≡ false → is_stale s (group.StartsFor cpu r o) ≡ false
+not_of_object stale.Nothing cpu r o h = refl
+not_of_object (stale.Own on) cpu r o h = refl
+not_of_object stale.OfAgents cpu r o h = refl
+not_of_object stale.OfTime cpu r o h = refl
+not_of_object stale.Everything cpu r o h = absurd (let z : ⊥ = cc in z)
+
+-- where everything may have changed no block is known
+all_unknown : (s : Stale) (b : Block) → s ≡ stale.Everything → has_stale s b ≡ false → ⊥
+all_unknown s (block.One g) e h = let f = rw e at h in let z : ⊥ = cc in z
+all_unknown s (block.ForEach cpu r) e h = let f = rw e at h in let z : ⊥ = cc in z
+
 -- ---- the counts after an event
 
-module _ {A : Type 0} (m : Meaning A) (plan : Plan) (journal : List Event) (S : State A) (all : List Group) (space : ℕ) (u : IsUnderWay m plan journal S all space) where
+module _ {A : Type 0} (m : Meaning A) (plan : Plan) (journal : List Event) (S : State A) (all : Grouping) (space : ℕ) (u : IsUnderWay m plan journal S (all_of all) space) where
   module _ (k : ℕ) (e : Event) (at : slice_get (ready plan m journal) k ≡ Some e) where
     now_then : after plan m S e ≡ state_after plan m (journal ++ e ∷ [])
     now_then = ap (λ (T : State A). after plan m T e) u.state ∙ sym (state_goes_on plan m journal e)
@@ -97,34 +113,48 @@ module _ {A : Type 0} (m : Meaning A) (plan : Plan) (journal : List Event) (S : 
         ∙ ap length (group_offers plan m (state_after plan m (journal ++ e ∷ [])) g)
         ∙ ap (λ (T : State A). offered_len plan m T g) (sym now_then)
 
-    known_by : (s : Stale) (n : ℕ) (g : Group) → (is_stale s g ≡ false → n ≡ offered_len plan m S g) → is_stale (stale_after s e) g ≡ false → n ≡ offered_len plan m (after plan m S e) g
-    known_by stale.Nothing n g was h = was refl ∙ stays g h
-    known_by _ n g was h = absurd (let z : ⊥ = cc in z)
+    stays_each : (cpu : ℕ) (r : Rank) (ids : List ℕ) → is_stale (stale_by e) (group.StartsFor cpu r 0) ≡ false → length (events_for plan m S cpu r ids) ≡ length (events_for plan m (after plan m S e) cpu r ids)
+    stays_each cpu r [] h = refl
+    stays_each cpu r (o ∷ ids) h =
+        length-append (offered_from plan m S (group.StartsFor cpu r o) 0) (events_for plan m S cpu r ids)
+        ∙ ap (λ n. n + length (events_for plan m S cpu r ids)) (stays (group.StartsFor cpu r o) (not_of_object (stale_by e) cpu r o h))
+        ∙ ap (λ n. offered_len plan m (after plan m S e) (group.StartsFor cpu r o) + n) (stays_each cpu r ids h)
+        ∙ sym (length-append (offered_from plan m (after plan m S e) (group.StartsFor cpu r o) 0) (events_for plan m (after plan m S e) cpu r ids))
+
+    -- and so does a block
+    stays_block : (o : ObjectLists) (b : Block) → has_stale (stale_by e) b ≡ false → block_len plan m S o b ≡ block_len plan m (after plan m S e) o b
+    stays_block o (block.One g) h =
+        ap length (append-nil (offered_from plan m S g 0)) ∙ stays g h ∙ ap length (sym (append-nil (offered_from plan m (after plan m S e) g 0)))
+    stays_block o (block.ForEach cpu r) h = stays_each cpu r (objects_of o r) h
+
+    none_stale : (b : Block) → has_stale stale.Nothing b ≡ false
+    none_stale (block.One g) = refl
+    none_stale (block.ForEach cpu r) = refl
+
+    known_by : (s : Stale) (n : ℕ) (b : Block) → (has_stale s b ≡ false → n ≡ block_len plan m S all.objects b) → has_stale (stale_after s e) b ≡ false → n ≡ block_len plan m (after plan m S e) all.objects b
+    known_by stale.Nothing n b was h = was (none_stale b) ∙ stays_block all.objects b h
+    known_by _ n b was h = absurd (all_unknown stale.Everything b refl h)
 
     pub counts_go_on : (c : Counts) → IsKept plan m S all c → IsKept plan m (after plan m S e) all (record { each = c.each; stale = stale_after c.stale e })
     counts_go_on c kept = record {
       filled = kept.filled;
       small = kept.small;
-      known = λ i g is h. known_by c.stale _ g (kept.known i g is) h;
+      known = λ i b is h. known_by c.stale _ b (kept.known i b is) h;
     }
 
 -- ---- counts of which nothing is known
 
-none_known : {A : Type 0} (m : Meaning A) (plan : Plan) (S : State A) (s : Stale) (n : ℕ) (g : Group) → s ≡ stale.Everything → is_stale s g ≡ false → n ≡ offered_len plan m S g
-none_known m plan S stale.Everything n g e h = absurd (let z : ⊥ = cc in z)
-none_known m plan S _ n g e h = absurd (let z : ⊥ = cc in z)
-
-pub unknown_kept : {A : Type 0} (m : Meaning A) (plan : Plan) (S : State A) (all : List Group) (c : Counts) → Unknown (length all) c → IsKept plan m S all c
+pub unknown_kept : {A : Type 0} (m : Meaning A) (plan : Plan) (S : State A) (all : Grouping) (c : Counts) → Unknown (length all.blocks) c → IsKept plan m S all c
 unknown_kept m plan S all c k = record {
   filled = k.filled;
-  small = k.small;
-  known = λ i g is h. none_known m plan S c.stale _ g k.nothing h;
+  small = λ i b is. let zero = k.zeros i in omega (arith, zero);
+  known = λ i b is h. absurd (all_unknown c.stale b k.nothing h);
 }
 
 -- and nothing is from here on
-pub forgotten : {A : Type 0} (m : Meaning A) (plan : Plan) (S T : State A) (all : List Group) (c : Counts) → IsKept plan m S all c → IsKept plan m T all (record { each = c.each; stale = stale.Everything })
+pub forgotten : {A : Type 0} (m : Meaning A) (plan : Plan) (S T : State A) (all : Grouping) (c : Counts) → IsKept plan m S all c → IsKept plan m T all (record { each = c.each; stale = stale.Everything })
 forgotten m plan S T all c kept = record {
   filled = kept.filled;
   small = kept.small;
-  known = λ i g is h. absurd (let z : ⊥ = cc in z);
+  known = λ i b is h. absurd (all_unknown stale.Everything b refl h);
 }

@@ -8,6 +8,7 @@ use Rattle.wdf_model.specs.declared.enums.Group.{Group}
 use Rattle.wdf_model.specs.State.{State}
 use Rattle.wdf_model.specs.rules.Groups.{groups}
 use Rattle.wdf_model.specs.rules.Ready.{IsRunOf, state_after}
+use Rattle.wdf_ready.specs.Blocks.{Grouping, all_of}
 use Rattle.wdf_ready.specs.Counts.{Counts, IsKept}
 use Rattle.wdf_offers.specs.Search.{has_places}
 
@@ -26,6 +27,6 @@ pub record IsUnderWay {A : Type 0} (m : Meaning A) (plan : Plan) (journal : List
   pub room : plan.limit ≤ space
 
 -- All that a core keeps: this, and counts that are right where they are known.
-pub record IsSound {A : Type 0} (m : Meaning A) (plan : Plan) (journal : List Event) (S : State A) (all : List Group) (space : ℕ) (c : Counts) : Type 0 where
-  pub way : IsUnderWay m plan journal S all space
+pub record IsSound {A : Type 0} (m : Meaning A) (plan : Plan) (journal : List Event) (S : State A) (all : Grouping) (space : ℕ) (c : Counts) : Type 0 where
+  pub way : IsUnderWay m plan journal S (all_of all) space
   pub counts : IsKept plan m S all c

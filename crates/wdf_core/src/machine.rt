@@ -12,6 +12,7 @@ ghost use Rattle.wdf_core.specs.Going.{goes_on, is_tick, tick_if};
 ghost use Rattle.law_machine_places.specs.Placed.{IsAmong};
 ghost use Rattle.wdf_offers.specs.Search.{has_places};
 ghost use Rattle.wdf_ready.specs.Actors.{is_by as is_step_of};
+ghost use Rattle.wdf_ready.specs.Blocks.{all_of};
 ghost use Rattle.wdf_ready.specs.Counts.{Unknown};
 ghost use Rattle.wdf_ready.specs.Sides.{is_of as is_event_of};
 
@@ -19,13 +20,11 @@ use std::alloc::Global;
 use std::marker::Model;
 use std::mem;
 use wdf_base::{Actor, Agent, Ending, Event, Fault, Memory, Plan};
-use wdf_model::Group;
-use wdf_offers::any_own;
 use wdf_parts::Parts;
 use wdf_plan_index::IndexedPlan;
 use wdf_ready::{
-    KeptCounts, Side, allowed_at, first_by, first_of, groups_of, is_allowed, is_by, is_of, is_open,
-    waits_for_time,
+    Blocks, KeptCounts, Side, allowed_at, any_own, blocks_of, first_by, first_of, is_allowed,
+    is_by, is_of, is_open, waits_for_time,
 };
 use wdf_same::same_event;
 use wdf_steps::step;
@@ -47,7 +46,7 @@ fn opening_parts<A: Agent>(
 /// Room for the events of a run and for the counts of its groups, before the first event.
 #[derive(Drop)]
 struct Room {
-    groups: Vec<Group>,
+    groups: Blocks,
     journal: Vec<Event>,
     counts: KeptCounts,
 }
@@ -55,12 +54,12 @@ struct Room {
 impl Room {
     /// Room for the runs of a plan.
     fn make(alloc: Global, plan: &IndexedPlan) -> Result<Room, Memory>
-        ensures groups { IfOk result (λ room. room.groups.items ≡ filter (has_places plan.now) (groups plan.now)) }
+        ensures groups { IfOk result (λ room. all_of room.groups ≡ filter (has_places plan.now) (groups plan.now)) }
         ensures empty { IfOk result (λ room. room.journal.items ≡ []) }
         ensures space { IfOk result (λ room. plan.now.limit ≤ vec_capacity room.journal) }
-        ensures counts { IfOk result (λ room. Unknown (length room.groups.items) room.counts) }
+        ensures counts { IfOk result (λ room. Unknown (length room.groups.blocks) room.counts) }
     {
-        let groups = groups_of(alloc, plan)?;
+        let groups = blocks_of(alloc, plan)?;
         let journal = Vec::with_capacity(alloc, plan.plan().limit() as usize)?;
         let counts = KeptCounts::make(alloc, groups.len())?;
         Ok(Room {
@@ -92,10 +91,10 @@ fn place_of(pick: u64, count: usize) -> usize
 pub struct Core<A: Agent> {
     plan: IndexedPlan,
     parts: Parts<A>,
-    /// The groups of candidates that can have places, in their order.
-    groups: Vec<Group>,
+    /// The groups of candidates that can have places, in blocks, in their order.
+    groups: Blocks,
     journal: Vec<Event>,
-    /// How many events may come of each group, as far as that was counted and can't have changed.
+    /// How many events may come of each block, as far as that was counted and can't have changed.
     counts: KeptCounts,
 }
 
@@ -105,12 +104,13 @@ impl<A: Agent> Drop for Core<A> {
         let Core {
             plan,
             parts,
-            groups: _,
+            groups,
             journal: _,
             counts,
         } = self;
         mem::drop(plan);
         mem::drop(parts);
+        mem::drop(groups);
         mem::drop(counts);
     }
 }
@@ -123,7 +123,7 @@ impl<A: Agent> Model for Core<A> {
 
     ghost view = { λ c. record { plan = c.plan; journal = c.journal.items } };
 
-    ghost invariant = { λ c. IsSound A.meaning c.plan c.journal.items c.parts c.groups.items (vec_capacity c.journal) c.counts };
+    ghost invariant = { λ c. IsSound A.meaning c.plan c.journal.items c.parts c.groups (vec_capacity c.journal) c.counts };
 }
 
 impl<A: Agent> Core<A> {
@@ -157,10 +157,10 @@ impl<A: Agent> Core<A> {
     ) -> Result<Core<A>, Memory>
         requires resolved { IsResolved plan }
         requires agents { agents.items ≡ opening_agents plan A.meaning }
-        requires groups { room.groups.items ≡ filter (has_places plan) (groups plan) }
+        requires groups { all_of room.groups ≡ filter (has_places plan) (groups plan) }
         requires empty { room.journal.items ≡ [] }
         requires space { plan.limit ≤ vec_capacity room.journal }
-        requires counts { Unknown (length room.groups.items) room.counts }
+        requires counts { Unknown (length room.groups.blocks) room.counts }
         ensures plan { IfOk result (λ core. core.plan ≡ plan) }
         ensures journal { IfOk result (λ core. core.journal ≡ []) }
     {
@@ -187,9 +187,9 @@ impl<A: Agent> Core<A> {
 
     /// The core of an opening.
     fn begun(plan: IndexedPlan, parts: Parts<A>, room: Room) -> Core<A>
-        requires under_way { IsUnderWay A.meaning plan [] parts room.groups.items (vec_capacity room.journal) }
+        requires under_way { IsUnderWay A.meaning plan [] parts (all_of room.groups) (vec_capacity room.journal) }
         requires empty { room.journal.items ≡ [] }
-        requires counts { Unknown (length room.groups.items) room.counts }
+        requires counts { Unknown (length room.groups.blocks) room.counts }
         ensures plan { result.plan ≡ plan }
         ensures journal { result.journal ≡ [] }
     {
@@ -246,7 +246,7 @@ impl<A: Agent> Core<A> {
         self.counts.count(&self.plan, &self.parts, &self.groups)
     }
 
-    /// The k-th of these events; `None` exactly where there are fewer. No group is searched of which the count is known
+    /// The k-th of these events; `None` exactly where there are fewer. No block is searched of which the count is known
     /// and says that it isn't there.
     fn counted_at(&self, k: usize) -> Option<Event>
         requires { goes_on self.now.plan self.now.journal ≡ true }

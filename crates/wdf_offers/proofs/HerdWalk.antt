@@ -25,7 +25,7 @@ use Rattle.wdf_offers.proofs.Skips.{right_false}
 -- ---- the next one that is counted
 
 -- no id from one on passes
-abbrev NoneOn : (ℕ → Bool) → ℕ → Type 0
+abbrev pub NoneOn : (ℕ → Bool) → ℕ → Type 0
 NoneOn w at = (r : ℕ) → at ≤ r → w r ≡ false
 
 -- an id is the first one that passes
@@ -59,7 +59,7 @@ module _ {A : Type 0} (S : State A) where
   past_holdings : (test : Holding → Bool) → test no_holding ≡ false → (r : ℕ) → length S.power.holdings ≤ r → test (entry no_holding S.power.holdings r) ≡ false
   past_holdings test none r past = ap test (entry_past no_holding S.power.holdings r past) ∙ none
 
-  none_of : (h : Herd) (at : ℕ) → None ≡ find (nat_le at) (whole h S) → NoneOn (whole_test h S) at
+  pub none_of : (h : Herd) (at : ℕ) → None ≡ find (nat_le at) (whole h S) → NoneOn (whole_test h S) at
   none_of herd.Cancel at = none_on (whole_test herd.Cancel S) (length S.requests.all) (past_requests (λ (x : Request). is_due x.info.mark) refl) at
   none_of herd.Return at = none_on (whole_test herd.Return S) (length S.requests.all) (past_requests (λ (x : Request). is_some (returning_queue x.place)) refl) at
   none_of herd.Stop at = none_on (whole_test herd.Stop S) (length S.power.holdings) (past_holdings (λ (x : Holding). is_some (unasked_queue x)) refl) at

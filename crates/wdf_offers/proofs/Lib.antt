@@ -14,3 +14,4 @@ pub mod Leavers
 mod ComingBack
 pub mod Herds
 pub mod HerdWalk
+mod AtRest

@@ -118,6 +118,14 @@ handler_ranked_by plan q f c false false h = absurd (let z : ⊥ = cc in z)
 pub handler_ranked : (plan : Plan) (q : ℕ) (f : RequestForm) (c : Callback) → handler_for plan q f ≡ Some c → (row_of c).rank ≡ rank.Handler
 handler_ranked plan q f c h = handler_ranked_by plan q f c (declares plan (typed_handler f) q) (declares plan callback.EvtIoDefault q) h
 
+-- and so do all callbacks for a request
+pub for_low : (plan : Plan) (r : Rank) (o : ℕ) → callback_irql plan (callback_for r) o ≤ 2
+for_low plan rank.Cancel q = queue_low plan q
+for_low plan rank.CanceledOnQueue q = queue_low plan q
+for_low plan rank.Stop q = queue_low plan q
+for_low plan rank.Resume q = queue_low plan q
+for_low plan _ o = omega arith
+
 dpc_low : (plan : Plan) (k : Kind) (o : ℕ) → callback_irql plan (dpc_function k) o ≤ 2
 dpc_low plan kind.Interrupt o = omega arith
 dpc_low plan _ o = omega arith
@@ -286,11 +294,12 @@ module _ {A : Type 0} (plan : Plan) (m : Meaning A) (S : State A) where
   not_due cpu rank.Completion t k h = no_sending_by cpu t (slice_get (the_target S.targets t).sent k) h
   not_due cpu r o k h = not_ready cpu (callback_for r) o (Some (handle_in plan S k)) h
 
-  too_high_for : (cpu : ℕ) (r : Rank) (o k : ℕ) → not (level_fits S cpu (callback_irql plan (callback_for r) o)) ≡ true → offered plan m S (group.StartsFor cpu r o) k ≡ None
-  too_high_for cpu rank.Completion t k h =
+  -- no callback for a request starts whose level is too high
+  pub too_high_for : (cpu : ℕ) (r : Rank) (o k bound : ℕ) → callback_irql plan (callback_for r) o ≤ bound → not (level_fits S cpu bound) ≡ true → offered plan m S (group.StartsFor cpu r o) k ≡ None
+  too_high_for cpu rank.Completion t k bound low h =
       not_mapped (λ (s : Sending). starts_for plan S cpu callback.EvtRequestCompletion t s.request.0) (slice_get (the_target S.targets t).sent k)
-      (λ s e. not_above cpu callback.EvtRequestCompletion t (Some (handle_in plan S s.request.0)) 2 (omega arith) h)
-  too_high_for cpu r o k h = not_above cpu (callback_for r) o (Some (handle_in plan S k)) (callback_irql plan (callback_for r) o) (omega arith) h
+      (λ s e. not_above cpu callback.EvtRequestCompletion t (Some (handle_in plan S s.request.0)) bound low h)
+  too_high_for cpu r o k bound low h = not_above cpu (callback_for r) o (Some (handle_in plan S k)) bound low h
 
   -- where no entry passes, none that is looked up does
   entry_fails : {T : Type 0} (p : T → Bool) (blank : T) → p blank ≡ false → (all : List T) (k : ℕ) → list_any p all ≡ false → p (entry blank all k) ≡ false
@@ -320,7 +329,7 @@ module _ {A : Type 0} (plan : Plan) (m : Meaning A) (S : State A) where
   never_due cpu _ o k h = absurd (let z : ⊥ = cc in z)
 
   no_start_for : (cpu : ℕ) (r : Rank) (o k : ℕ) → Fails (level_fits S cpu (callback_irql plan (callback_for r) o)) (can_be_due plan S r o) → offered plan m S (group.StartsFor cpu r o) k ≡ None
-  no_start_for cpu r o k (first h) = too_high_for cpu r o k (rw h refl)
+  no_start_for cpu r o k (first h) = too_high_for cpu r o k (callback_irql plan (callback_for r) o) (omega arith) (rw h refl)
   no_start_for cpu r o k (second h) = never_due cpu r o k h
 
   -- ---- groups

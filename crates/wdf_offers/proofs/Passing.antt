@@ -1,13 +1,13 @@
--- What a search has passed: of the places of a group, and of the groups.
+-- What a search has passed: of the places of a group, and of pieces that follow one another.
 use Rattle.std.proofs.Common.{Bool, true, false, ℕ, zero, suc, ◌≡◌, ◌+◌, ◌-◌, ◌<◌, ◌≤◌, List, [], ◌∷◌, ◌++◌, length, drop, Option, Some, None, position, refl, sym, ap, subst, ◌∙◌, arith, length-append, append_assoc, append-nil, slice_get, get_or, is_some, nat_lt}
 use Rattle.std.proofs.lemmas.Bool.{le-ltb, lt-ltb, ltb-true, ltb-false}
-use Rattle.std.specs.List.{position_or_len}
+use Rattle.std.specs.List.{flat_map, position_or_len}
 use Rattle.wdf_base.specs.Meaning.{Meaning}
 use Rattle.wdf_base.specs.declared.event.Event.{Event}
 use Rattle.wdf_base.specs.declared.plan.Plan.{Plan}
 use Rattle.wdf_model.specs.declared.enums.Group.{Group}
 use Rattle.wdf_model.specs.State.{State}
-use Rattle.wdf_offers.specs.Search.{HasNone, IsFirst, NoneBefore, Skips, events_of, offered, offered_from}
+use Rattle.wdf_offers.specs.Search.{HasNone, IsFirst, NoneBefore, Skips, offered, offered_from}
 use Rattle.wdf_offers.proofs.Places.{found, passed}
 
 -- a list is what was passed, so many of it, and the rest
@@ -70,7 +70,7 @@ module _ {A : Type 0} (plan : Plan) (m : Meaning A) (S : State A) (group : Group
   hits at place count e p k here =
       at_rest all (offered_from plan m S group at) count 0 count p (omega arith) ∙ ap (λ xs. slice_get xs 0) (opens at place e k here)
 
--- ---- the groups
+-- ---- pieces
 
 in_first : {T : Type 0} (xs ys : List T) (k : ℕ) (e : T) → slice_get xs k ≡ Some e → slice_get (xs ++ ys) k ≡ Some e
 in_first [] ys k e h = absurd (let z : ⊥ = cc in z)
@@ -88,33 +88,44 @@ drops_all [] (suc i) h = refl
 drops_all (x ∷ xs) zero h = absurd (omega arith)
 drops_all (x ∷ xs) (suc i) h = drops_all xs i (omega arith)
 
-module _ {A : Type 0} (plan : Plan) (m : Meaning A) (S : State A) (groups : List Group) (all : List Event) where
-  -- the next group opens what is left
-  pub group_opens : (i : ℕ) (g : Group) → slice_get groups i ≡ Some g → events_of plan m S (drop i groups) ≡ offered_from plan m S g 0 ++ events_of plan m S (drop (i + 1) groups)
-  group_opens i g e = ap (events_of plan m S) (drop_opens groups i g e)
+-- a list is made of pieces, one for each item
+module _ {X T : Type 0} (f : X → List T) (xs : List X) where
+  -- the next piece opens what is left
+  pub piece_opens : (i : ℕ) (x : X) → slice_get xs i ≡ Some x → flat_map f (drop i xs) ≡ f x ++ flat_map f (drop (i + 1) xs)
+  piece_opens i x e = ap (flat_map f) (drop_opens xs i x e)
 
-  pub group_next : (i count : ℕ) (g : Group) → slice_get groups i ≡ Some g → Passed all (events_of plan m S (drop i groups)) count
-      → Passed all (offered_from plan m S g 0 ++ events_of plan m S (drop (i + 1) groups)) count
-  group_next i count g e p = same_rest all (events_of plan m S (drop i groups)) (offered_from plan m S g 0 ++ events_of plan m S (drop (i + 1) groups)) count (group_opens i g e) p
+  -- past the last item no piece is left
+  pub no_piece : (i : ℕ) → length xs ≤ i → flat_map f (drop i xs) ≡ []
+  no_piece i past = ap (flat_map f) (drops_all xs i past)
 
-  pub group_passes : (i count : ℕ) (g : Group) → slice_get groups i ≡ Some g → Passed all (events_of plan m S (drop i groups)) count
-      → Passed all (events_of plan m S (drop (i + 1) groups)) (count + length (offered_from plan m S g 0))
-  group_passes i count g e p =
-      more_passed all (offered_from plan m S g 0) (events_of plan m S (drop (i + 1) groups)) count (group_next i count g e p)
+  module _ (all : List T) where
+    pub piece_next : (i count : ℕ) (x : X) → slice_get xs i ≡ Some x → Passed all (flat_map f (drop i xs)) count → Passed all (f x ++ flat_map f (drop (i + 1) xs)) count
+    piece_next i count x e p = same_rest all (flat_map f (drop i xs)) (f x ++ flat_map f (drop (i + 1) xs)) count (piece_opens i x e) p
 
-  -- of so many places those that the next group doesn't have are left
-  pub group_left : (i left k rest : ℕ) (g : Group) → slice_get groups i ≡ Some g → Passed all (events_of plan m S (drop i groups)) (k - left) → left ≤ k → length (offered_from plan m S g 0) + rest ≡ left
-      → Passed all (events_of plan m S (drop (i + 1) groups)) (k - rest)
-  group_left i left k rest g at p few e =
-      let count : k - left + length (offered_from plan m S g 0) ≡ k - rest = omega arith in
-      subst (λ n. Passed all (events_of plan m S (drop (i + 1) groups)) n) count (group_passes i (k - left) g at p)
+    pub piece_passes : (i count : ℕ) (x : X) → slice_get xs i ≡ Some x → Passed all (flat_map f (drop i xs)) count → Passed all (flat_map f (drop (i + 1) xs)) (count + length (f x))
+    piece_passes i count x e p = more_passed all (f x) (flat_map f (drop (i + 1) xs)) count (piece_next i count x e p)
 
-  -- what is at a place of the next group is so much further in the whole
-  pub group_at : (i count left k : ℕ) (g : Group) (e : Event) → slice_get groups i ≡ Some g → Passed all (events_of plan m S (drop i groups)) count → count + left ≡ k → slice_get (offered_from plan m S g 0) left ≡ Some e → slice_get all k ≡ Some e
-  group_at i count left k g e at p is here =
-      at_rest all (offered_from plan m S g 0 ++ events_of plan m S (drop (i + 1) groups)) count left k
-      (group_next i count g at p) is
-      ∙ in_first (offered_from plan m S g 0) (events_of plan m S (drop (i + 1) groups)) left e here
+    -- so many more, as many as the next piece has
+    pub so_many_pass : (i count n : ℕ) (x : X) → slice_get xs i ≡ Some x → n ≡ length (f x) → Passed all (flat_map f (drop i xs)) count → Passed all (flat_map f (drop (i + 1) xs)) (count + n)
+    so_many_pass i count n x e many p = subst (λ k. Passed all (flat_map f (drop (i + 1) xs)) (count + k)) (sym many) (piece_passes i count x e p)
+
+    -- of so many places those that the next piece doesn't have are left
+    pub piece_left : (i left k rest : ℕ) (x : X) → slice_get xs i ≡ Some x → Passed all (flat_map f (drop i xs)) (k - left) → left ≤ k → length (f x) + rest ≡ left
+        → Passed all (flat_map f (drop (i + 1) xs)) (k - rest)
+    piece_left i left k rest x at p few e =
+        let count : k - left + length (f x) ≡ k - rest = omega arith in
+        subst (λ n. Passed all (flat_map f (drop (i + 1) xs)) n) count (piece_passes i (k - left) x at p)
+
+    -- what is at a place of the next piece is so much further in the whole
+    pub piece_at : (i count left k : ℕ) (x : X) (e : T) → slice_get xs i ≡ Some x → Passed all (flat_map f (drop i xs)) count → count + left ≡ k → slice_get (f x) left ≡ Some e → slice_get all k ≡ Some e
+    piece_at i count left k x e at p is here =
+        at_rest all (f x ++ flat_map f (drop (i + 1) xs)) count left k
+        (piece_next i count x at p) is
+        ∙ in_first (f x) (flat_map f (drop (i + 1) xs)) left e here
+
+    -- past the last item all pieces are passed
+    pub pieces_passed : (i count : ℕ) → length xs ≤ i → Passed all (flat_map f (drop i xs)) count → Passed all [] count
+    pieces_passed i count past p = same_rest all (flat_map f (drop i xs)) [] count (no_piece i past) p
 
 pub index_there : {T : Type 0} (xs : List T) (i : ℕ) (d : T) → i < length xs → slice_get xs i ≡ Some (get_or xs i d)
 index_there [] i d h = absurd (omega arith)
@@ -182,24 +193,18 @@ module _ {T : Type 0} (test : T → Bool) (all some rest : List T) (count : ℕ)
   pub none_in : (n : ℕ) → HasNone test some n → NoneBefore test all (count + n)
   none_in n h = let e = h.0 in none_further n (omega arith) h.1
 
+  -- the first of the next ones is the first of all
+  pub first_in_whole : (place : ℕ) → IsFirst test some place → IsFirst test all (count + place)
+  first_in_whole place h =
+      let below = within some place h.item h.at in
+      record {
+        item = h.item;
+        at = at_rest all (some ++ rest) count place (count + place) passed refl ∙ at_start some rest place below ∙ h.at;
+        passes = h.passes;
+        before = none_further place (omega arith) h.before;
+      }
+
   pub first_of : (place : ℕ) → IsFirst test some place → position test all ≡ Some (count + place)
   first_of place h =
-      let below = within some place h.item h.at in
-      first_at test all (count + place) h.item (none_further place (omega arith) h.before)
-      (at_rest all (some ++ rest) count place (count + place) passed refl ∙ at_start some rest place below ∙ h.at) h.passes
-
--- ---- whether any group offers
-
--- where one of the groups offers something, something may come
-pub some_events : {A : Type 0} (plan : Plan) (m : Meaning A) (S : State A) (groups : List Group) (i : ℕ) (g : Group) → slice_get groups i ≡ Some g → 0 < length (offered_from plan m S g 0)
-    → 0 < length (events_of plan m S groups)
-some_events plan m S [] i g at some = absurd (let z : ⊥ = cc in z)
-some_events plan m S (h ∷ groups) zero g at some =
-    let same : h ≡ g = cc in
-    let here : 0 < length (offered_from plan m S h 0) = subst (λ x. 0 < length (offered_from plan m S x 0)) (sym same) some in
-    let sum = length-append (offered_from plan m S h 0) (events_of plan m S groups) in
-    omega arith
-some_events plan m S (h ∷ groups) (suc i) g at some =
-    let rest = some_events plan m S groups i g at some in
-    let sum = length-append (offered_from plan m S h 0) (events_of plan m S groups) in
-    omega arith
+      let k = first_in_whole place h in
+      first_at test all (count + place) k.item k.before k.at k.passes

@@ -44,3 +44,9 @@ module _ {A : Type 0} (plan : Plan) (m : Meaning A) (S : State A) (group : Group
       passed from (omega arith) (none from (omega arith) (omega arith))
       ∙ all_passed (from + 1) more (omega arith) (λ p above below. none p (omega arith) (omega arith))
       ∙ ap (offered_from plan m S group) (sym e)
+
+  -- where no place offers anything, nothing is offered
+  pub nothing_there : ((p : ℕ) → offered plan m S group p ≡ None) → offered_from plan m S group 0 ≡ []
+  nothing_there none =
+      let all : 0 + places_in plan S group ≡ places_in plan S group = omega arith in
+      all_passed 0 (places_in plan S group) (omega arith) (λ p over under. none p) ∙ ap (offered_from plan m S group) all ∙ past (places_in plan S group) (omega arith)

@@ -4,3 +4,4 @@ pub mod Leaving
 pub mod ForRequests
 pub mod Lesser
 pub mod Parked
+pub mod Resting

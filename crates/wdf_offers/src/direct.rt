@@ -155,29 +155,6 @@ pub fn park_at<A: Agent>(
     }
 }
 
-/// Whether a group is that of the own event of a frame, and has it.
-fn has_own<A: Agent>(plan: &IndexedPlan, parts: &Parts<A>, group: Group) -> bool
-    ensures { IsTrue result → 0 < length (search.offered_from plan.now A.meaning parts.now group 0) }
-{
-    match group {
-        Group::OwnEvent { cpu } => own_len(plan, parts, Cpu(cpu)) > 0,
-        _ => false,
-    }
-}
-
-/// Whether the top frame of a processor has an event of its own, where the processor's group is among these. Nothing but the top
-/// frames is looked at.
-pub fn any_own<A: Agent>(plan: &IndexedPlan, parts: &Parts<A>, all: &[Group]) -> bool
-    ensures { IsTrue result → 0 < length (search.events_of plan.now A.meaning parts.now all.now) }
-{
-    for group in all {
-        if has_own(plan, parts, *group) {
-            return true;
-        }
-    }
-    false
-}
-
 /// How many completions may come.
 #[tactic(auto, using(crate::proofs::Straight::completions_counted))]
 pub fn completions_len<A: Agent>(plan: &IndexedPlan, parts: &Parts<A>) -> usize

@@ -118,7 +118,7 @@ impl Herd {
     }
 
     /// How many there are that are counted for whatever queue, and others among them.
-    fn whole_len<A: Agent>(self, parts: &Parts<A>) -> u32
+    pub(crate) fn whole_len<A: Agent>(self, parts: &Parts<A>) -> u32
         ensures { result ≡ length (whole self parts.now) }
     {
         match self {

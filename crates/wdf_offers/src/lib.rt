@@ -10,6 +10,7 @@ mod idle;
 mod leaving;
 mod parked;
 mod posts;
+mod resting;
 mod started;
 
 pub use candidates::{
@@ -17,8 +18,8 @@ pub use candidates::{
     stage_at, start_for, unparks,
 };
 pub use direct::{
-    any_own, cleanup_offered, completion_offered, completions_len, end_offered, own_at, own_len,
-    park_at, park_len,
+    cleanup_offered, completion_offered, completions_len, end_offered, own_at, own_len, park_at,
+    park_len,
 };
 pub use due::{next_due, next_startable};
 pub use for_requests::{Herd, herd_at, herd_len, herd_of};
@@ -26,4 +27,5 @@ pub use idle::is_idle;
 pub use leaving::{Leaving, numbered_at, numbered_len};
 pub use parked::{coming_at, coming_len, is_counted};
 pub use posts::{post_offered, posts_at, posts_len};
+pub use resting::rests;
 pub use started::{is_cpu, start_offered};

@@ -1,5 +1,5 @@
 -- The starts of a rank on two empty processors are as many.
-use Rattle.std.proofs.Common.{if◌then◌else◌, Bool, true, false, ◌&&◌, ◌==◌, ◌-◌, nat_lt, ℕ, suc, ◌≡◌, List, [], ◌∷◌, length, Option, Some, None, is_some, option_map, slice_get, refl, sym, ap, ◌∙◌}
+use Rattle.std.proofs.Common.{if◌then◌else◌, Bool, true, false, ◌&&◌, ◌==◌, ◌+◌, ◌-◌, append-nil, length-append, nat_lt, ℕ, suc, ◌≡◌, List, [], ◌∷◌, length, Option, Some, None, is_some, option_map, slice_get, refl, sym, ap, ◌∙◌}
 use Rattle.std.specs.List.{cons_option, filter_map, range_with_len}
 use Rattle.std.specs.Option.{option_and_then}
 use Rattle.wdf_base.specs.Meaning.{Meaning}
@@ -23,11 +23,14 @@ use Rattle.wdf_model.specs.parts.Locks.{is_free_if_any, lock_of_callback}
 use Rattle.wdf_model.specs.parts.Queues.{front}
 use Rattle.wdf_model.specs.parts.Requests.{info_of}
 use Rattle.wdf_model.specs.parts.Targets.{the_target}
-use Rattle.wdf_model.specs.rules.Groups.{RANKS, callback_for, handler_start, if_there, places_for, places_of_rank, starts, starts_for}
+use Rattle.wdf_model.specs.declared.enums.Group.{Group}
+use Rattle.wdf_model.specs.rules.Groups.{RANKS, callback_for, groups_for, handler_start, if_there, places_for, places_of_rank, starts, starts_for}
 use Rattle.wdf_model.specs.rules.Starts.{is_ready_for, level_fits, life_fits, may_start}
 use Rattle.wdf_model.specs.rules.Steps.{is_cpu, is_proper_if_any, may}
 use Rattle.wdf_ready.specs.Alike.{AreAlike, is_shared}
-use Rattle.wdf_offers.specs.Search.{if_allowed, offered, offered_len}
+use Rattle.wdf_offers.specs.Search.{if_allowed, offered, offered_from, offered_len}
+use Rattle.wdf_ready.specs.Blocks.{ObjectLists, block_len, events_for, groups_in, objects_of}
+use Rattle.wdf_ready.specs.declared.blocks.Block.TheVariants as block
 use Rattle.wdf_offers.proofs.NotOffered.{empty_is_low}
 
 -- ---- lists
@@ -146,6 +149,29 @@ module _ {A : Type 0} (plan : Plan) (m : Meaning A) (S : State A) (a b : ℕ) (l
       same_len (offered plan m S (group.Starts a r)) (offered plan m S (group.Starts b r)) (λ k. offers_same r k h) (range_with_len 0 (places_of_rank plan S r - 0))
 
   -- and so are those for the requests of an object
-  pub alike_for : (r : Rank) (o : ℕ) → offered_len plan m S (group.StartsFor a r o) ≡ offered_len plan m S (group.StartsFor b r o)
+  alike_for : (r : Rank) (o : ℕ) → offered_len plan m S (group.StartsFor a r o) ≡ offered_len plan m S (group.StartsFor b r o)
   alike_for r o =
       same_len (offered plan m S (group.StartsFor a r o)) (offered plan m S (group.StartsFor b r o)) (offers_same_for r o) (range_with_len 0 (places_for plan S r o - 0))
+
+  alike_each : (r : Rank) (ids : List ℕ) → length (events_for plan m S a r ids) ≡ length (events_for plan m S b r ids)
+  alike_each r [] = refl
+  alike_each r (o ∷ ids) =
+      length-append (offered_from plan m S (group.StartsFor a r o) 0) (events_for plan m S a r ids)
+      ∙ ap (λ n. n + length (events_for plan m S a r ids)) (alike_for r o)
+      ∙ ap (λ n. offered_len plan m S (group.StartsFor b r o) + n) (alike_each r ids)
+      ∙ sym (length-append (offered_from plan m S (group.StartsFor b r o) 0) (events_for plan m S b r ids))
+
+  as_many_groups : (r : Rank) (ids : List ℕ) → length (groups_for a r ids) ≡ length (groups_for b r ids)
+  as_many_groups r [] = refl
+  as_many_groups r (o ∷ ids) = ap suc (as_many_groups r ids)
+
+  -- and so are those of a block
+  pub alike_blocks : (o : ObjectLists) (r : Rank)
+      → (length (groups_in o (block.ForEach a r)) ≡ length (groups_in o (block.ForEach b r))) × (block_len plan m S o (block.ForEach a r) ≡ block_len plan m S o (block.ForEach b r))
+  alike_blocks o r = (as_many_groups r (objects_of o r), alike_each r (objects_of o r))
+
+-- blocks of one group each offer as much as their groups
+pub alike_ones : {A : Type 0} (plan : Plan) (m : Meaning A) (S : State A) (o : ObjectLists) (g h : Group) → offered_len plan m S g ≡ offered_len plan m S h
+    → (length (groups_in o (block.One g)) ≡ length (groups_in o (block.One h))) × (block_len plan m S o (block.One g) ≡ block_len plan m S o (block.One h))
+alike_ones plan m S o g h same =
+    (refl, ap length (append-nil (offered_from plan m S g 0)) ∙ same ∙ ap length (sym (append-nil (offered_from plan m S h 0))))

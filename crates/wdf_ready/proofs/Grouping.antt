@@ -1,5 +1,5 @@
--- The groups of candidates: one more of each loop, and how many there are.
-use Rattle.std.proofs.Common.{◌≡◌, ℕ, zero, suc, ◌+◌, ◌*◌, ◌^◌, ◌<◌, ◌≤◌, Bool, true, false, List, [], ◌∷◌, ◌++◌, filter, is_some, get_or, length, map, take, refl, sym, ap, ◌∙◌, arith, append_assoc, length-append}
+-- The groups of candidates, in blocks: one more of each loop, and how many there are.
+use Rattle.std.proofs.Common.{if◌then◌else◌, ◌&&◌, ◌⊎◌, inl, inr, ◌≡◌, ℕ, zero, suc, ◌+◌, ◌*◌, ◌^◌, ◌<◌, ◌≤◌, Bool, true, false, List, [], ◌∷◌, ◌++◌, filter, is_some, get_or, length, map, take, refl, sym, ap, ◌∙◌, arith, append_assoc, length-append}
 use Rattle.std.specs.List.{flat_map, range_with_len}
 use Rattle.std.proofs.lemmas.Grind.{flat_map-append}
 use Rattle.std.proofs.lemmas.List.{take_more}
@@ -10,8 +10,12 @@ use Rattle.wdf_base.specs.declared.rank.Rank.{Rank}
 use Rattle.wdf_base.specs.declared.rank.Rank.TheVariants as rank
 use Rattle.wdf_model.specs.declared.enums.Group.{Group}
 use Rattle.wdf_model.specs.declared.enums.Group.TheVariants as group
+use Rattle.wdf_model.proofs.Tests.{left_fails}
 use Rattle.wdf_model.specs.Plans.{declared_ids, queue_of, target_of}
 use Rattle.wdf_model.specs.rules.Groups.{RANKS, groups, groups_for, groups_of_cpu, groups_of_rank}
+use Rattle.wdf_offers.specs.Search.{can_start_for, has_places}
+use Rattle.wdf_ready.specs.Blocks.{ObjectLists, groups_in, has_group, is_startable, joined, lists_of, objects_of}
+use Rattle.wdf_ready.specs.declared.blocks.Block.{Block}
 
 -- ---- loops
 
@@ -25,13 +29,11 @@ range_next n =
     let e : 0 + n ≡ n = omega arith in
     rw m (range_more 0 n ∙ ap (λ x. range_with_len 0 n ++ x ∷ []) e)
 
-map-append-one : {X Y : Type 0} (f : X → Y) (xs : List X) (x : X) → map f (xs ++ x ∷ []) ≡ map f xs ++ f x ∷ []
-map-append-one f [] x = refl
-map-append-one f (y ∷ xs) x = ap (λ ys. f y ∷ ys) (map-append-one f xs x)
-
 append_nothing : {X : Type 0} (xs : List X) → xs ++ [] ≡ xs
 append_nothing [] = refl
 append_nothing (x ∷ xs) = ap (λ ys. x ∷ ys) (append_nothing xs)
+
+-- ---- the objects of a rank
 
 -- the ids up to k that pass
 abbrev pub up_to : (ℕ → Bool) → ℕ → List ℕ
@@ -46,59 +48,97 @@ up_to_next p k =
     ∙ filter-append p (range_with_len 0 (suc k)) (suc k ∷ [])
     ∙ ap (λ j. up_to p k ++ filter p (j ∷ [])) n
 
--- the groups of the queues, and of the targets, up to id k
-abbrev pub of_queues : Plan → ℕ → Rank → ℕ → List Group
-of_queues plan cpu r k = groups_for cpu r (up_to (λ id. is_some (queue_of plan id)) k)
+none_at_first : (plan : Plan) (r : Rank) → has_group plan r 0 ≡ false
+none_at_first plan rank.Completion = refl
+none_at_first plan _ = refl
 
-abbrev pub of_targets : Plan → ℕ → Rank → ℕ → List Group
-of_targets plan cpu r k = groups_for cpu r (up_to (λ id. is_some (target_of plan id)) k)
+module _ (plan : Plan) (r : Rank) where
+  -- 0 is no object
+  pub none_yet : [] ≡ up_to (is_startable plan r) 0
+  none_yet = let e = left_fails (has_group plan r 0) (can_start_for plan r 0) (none_at_first plan r) in rw e refl
 
-module _ (cpu : ℕ) (r : Rank) (k : ℕ) (made before : List Group) where
-  passes : (p : ℕ → Bool) → made ≡ before ++ groups_for cpu r (up_to p k) → p (k + 1) ≡ true
-      → made ++ group.StartsFor cpu r (k + 1) ∷ [] ≡ before ++ groups_for cpu r (up_to p (k + 1))
-  passes p so_far e =
-      let this : filter p ((k + 1) ∷ []) ≡ (k + 1) ∷ [] = rw e refl in
-      ap (λ gs. gs ++ group.StartsFor cpu r (k + 1) ∷ []) so_far
-      ∙ append_assoc before (groups_for cpu r (up_to p k)) (group.StartsFor cpu r (k + 1) ∷ [])
-      ∙ ap (λ gs. before ++ gs) (sym (ap (groups_for cpu r) (up_to_next p k ∙ ap (λ ids. up_to p k ++ ids) this) ∙ map-append-one (λ o. group.StartsFor cpu r o) (up_to p k) (k + 1)))
+  -- one id more, which has a group that can have places, or not
+  module _ (k : ℕ) (ids : List ℕ) (so_far : ids ≡ up_to (is_startable plan r) k) where
+    pub one_startable : is_startable plan r (k + 1) ≡ true → ids ++ (k + 1) ∷ [] ≡ up_to (is_startable plan r) (k + 1)
+    one_startable e =
+        let this : filter (is_startable plan r) ((k + 1) ∷ []) ≡ (k + 1) ∷ [] = rw e refl in
+        ap (λ xs. xs ++ (k + 1) ∷ []) so_far ∙ sym (up_to_next (is_startable plan r) k ∙ ap (λ xs. up_to (is_startable plan r) k ++ xs) this)
 
-  fails : (p : ℕ → Bool) → made ≡ before ++ groups_for cpu r (up_to p k) → p (k + 1) ≡ false → made ≡ before ++ groups_for cpu r (up_to p (k + 1))
-  fails p so_far e =
-      let this : filter p ((k + 1) ∷ []) ≡ [] = rw e refl in
-      so_far ∙ ap (λ ids. before ++ groups_for cpu r ids) (sym (up_to_next p k ∙ ap (λ ids. up_to p k ++ ids) this ∙ append_nothing (up_to p k)))
+    pub not_startable : is_startable plan r (k + 1) ≡ false → ids ≡ up_to (is_startable plan r) (k + 1)
+    not_startable e =
+        let this : filter (is_startable plan r) ((k + 1) ∷ []) ≡ [] = rw e refl in
+        so_far ∙ sym (up_to_next (is_startable plan r) k ∙ ap (λ xs. up_to (is_startable plan r) k ++ xs) this ∙ append_nothing (up_to (is_startable plan r) k))
 
-  -- one id more
-  pub one_queue : (plan : Plan) → made ≡ before ++ of_queues plan cpu r k → is_some (queue_of plan (k + 1)) ≡ true
-      → made ++ group.StartsFor cpu r (k + 1) ∷ [] ≡ before ++ of_queues plan cpu r (k + 1)
-  one_queue plan = passes (λ id. is_some (queue_of plan id))
+-- ---- the groups for them
 
-  pub no_queue : (plan : Plan) → made ≡ before ++ of_queues plan cpu r k → is_some (queue_of plan (k + 1)) ≡ false → made ≡ before ++ of_queues plan cpu r (k + 1)
-  no_queue plan = fails (λ id. is_some (queue_of plan id))
+both_kept : (p q : ℕ → Bool) (ids : List ℕ) → filter q (filter p ids) ≡ filter (λ x. p x && q x) ids
+both_kept p q [] = refl
+both_kept p q (x ∷ ids) = by (p x) refl (both_kept p q ids)
+  where
+    by : (b : Bool) → p x ≡ b → filter q (filter p ids) ≡ filter (λ y. p y && q y) ids → filter q (if b then x ∷ filter p ids else filter p ids) ≡ filter (λ y. p y && q y) (x ∷ ids)
+    by true e rest = rw (e, rest) refl
+    by false e rest = rw (e, rest) refl
 
-  pub one_target : (plan : Plan) → made ≡ before ++ of_targets plan cpu r k → is_some (target_of plan (k + 1)) ≡ true
-      → made ++ group.StartsFor cpu r (k + 1) ∷ [] ≡ before ++ of_targets plan cpu r (k + 1)
-  one_target plan = passes (λ id. is_some (target_of plan id))
+kept_groups : (plan : Plan) (cpu : ℕ) (r : Rank) (ids : List ℕ) → filter (has_places plan) (groups_for cpu r ids) ≡ groups_for cpu r (filter (can_start_for plan r) ids)
+kept_groups plan cpu r [] = refl
+kept_groups plan cpu r (o ∷ ids) = by (can_start_for plan r o) refl (kept_groups plan cpu r ids)
+  where
+    by : (b : Bool) → can_start_for plan r o ≡ b → filter (has_places plan) (groups_for cpu r ids) ≡ groups_for cpu r (filter (can_start_for plan r) ids)
+        → filter (has_places plan) (groups_for cpu r (o ∷ ids)) ≡ groups_for cpu r (filter (can_start_for plan r) (o ∷ ids))
+    by true e rest = rw (e, rest) refl
+    by false e rest = rw (e, rest) refl
 
-  pub no_target : (plan : Plan) → made ≡ before ++ of_targets plan cpu r k → is_some (target_of plan (k + 1)) ≡ false → made ≡ before ++ of_targets plan cpu r (k + 1)
-  no_target plan = fails (λ id. is_some (target_of plan id))
+-- a rank has a group for each of its objects
+abbrev pub IsForObjects : Plan → ℕ → Rank → Type 0
+IsForObjects plan cpu r = groups_for cpu r (objects_of (lists_of plan) r) ≡ filter (has_places plan) (groups_of_rank plan cpu r)
 
--- one piece more
-one_piece : {X : Type 0} (f : X → List Group) (made before : List Group) (xs : List X) (x : X) (ys : List X) → ys ≡ xs ++ x ∷ [] → made ≡ before ++ flat_map f xs
-    → made ++ f x ≡ before ++ flat_map f ys
-one_piece f made before xs x ys e so_far =
-    ap (λ gs. gs ++ f x) so_far
-    ∙ append_assoc before (flat_map f xs) (f x)
-    ∙ ap (λ gs. before ++ gs) (sym (ap (flat_map f) e ∙ flat_map-append f xs (x ∷ []) ∙ ap (λ gs. flat_map f xs ++ gs) (append_nothing (f x))))
+for_objects : (plan : Plan) (cpu : ℕ) (r : Rank) (p : ℕ → Bool) → groups_for cpu r (filter (λ x. p x && can_start_for plan r x) (declared_ids plan)) ≡ filter (has_places plan) (groups_for cpu r (filter p (declared_ids plan)))
+for_objects plan cpu r p = sym (kept_groups plan cpu r (filter p (declared_ids plan)) ∙ ap (groups_for cpu r) (both_kept p (can_start_for plan r) (declared_ids plan)))
 
--- one processor more
-pub one_processor : (plan : Plan) (made before : List Group) (n : ℕ) → made ≡ before ++ flat_map (groups_of_cpu plan) (range_with_len 0 n)
-    → made ++ groups_of_cpu plan n ≡ before ++ flat_map (groups_of_cpu plan) (range_with_len 0 (n + 1))
-one_processor plan made before n = one_piece (groups_of_cpu plan) made before (range_with_len 0 n) n (range_with_len 0 (n + 1)) (range_next n)
+-- it is a rank for requests
+abbrev pub IsForRequests : Rank → Type 0
+IsForRequests r = (r ≡ rank.Completion) ⊎ ((r ≡ rank.Cancel) ⊎ ((r ≡ rank.CanceledOnQueue) ⊎ ((r ≡ rank.Stop) ⊎ (r ≡ rank.Resume))))
 
--- one rank more
-pub one_rank : (plan : Plan) (cpu : ℕ) (made before : List Group) (i : ℕ) (r : Rank) → i < 14 → made ≡ before ++ flat_map (groups_of_rank plan cpu) (take i RANKS)
-    → made ++ groups_of_rank plan cpu (get_or RANKS i r) ≡ before ++ flat_map (groups_of_rank plan cpu) (take (i + 1) RANKS)
-one_rank plan cpu made before i r h = one_piece (groups_of_rank plan cpu) made before (take i RANKS) (get_or RANKS i r) (take (i + 1) RANKS) (take_more RANKS i r h)
+pub for_rank : (plan : Plan) (cpu : ℕ) (r : Rank) → IsForRequests r → IsForObjects plan cpu r
+for_rank plan cpu r (inl e) = rw e (for_objects plan cpu rank.Completion (λ id. is_some (target_of plan id)))
+for_rank plan cpu r (inr (inl e)) = rw e (for_objects plan cpu rank.Cancel (λ id. is_some (queue_of plan id)))
+for_rank plan cpu r (inr (inr (inl e))) = rw e (for_objects plan cpu rank.CanceledOnQueue (λ id. is_some (queue_of plan id)))
+for_rank plan cpu r (inr (inr (inr (inl e)))) = rw e (for_objects plan cpu rank.Stop (λ id. is_some (queue_of plan id)))
+for_rank plan cpu r (inr (inr (inr (inr e)))) = rw e (for_objects plan cpu rank.Resume (λ id. is_some (queue_of plan id)))
+
+-- ---- one piece more
+
+-- a block more
+pub pushed : (o : ObjectLists) (bs : List Block) (b : Block) → joined o (bs ++ b ∷ []) ≡ joined o bs ++ groups_in o b
+pushed o bs b = flat_map-append (groups_in o) bs (b ∷ []) ∙ ap (λ gs. joined o bs ++ gs) (append_nothing (groups_in o b))
+
+-- no block, where there would be no group
+pub not_pushed : (o : ObjectLists) (bs : List Block) (gs : List Group) → gs ≡ [] → joined o bs ≡ joined o bs ++ gs
+not_pushed o bs gs none = sym (ap (λ xs. joined o bs ++ xs) none ∙ append_nothing (joined o bs))
+
+pub no_objects : (cpu : ℕ) (r : Rank) (ids : List ℕ) → length ids ≡ 0 → groups_for cpu r ids ≡ []
+no_objects cpu r [] h = refl
+no_objects cpu r (x ∷ ids) h = absurd (omega arith)
+
+module _ (plan : Plan) (made before : List Group) where
+  one_piece : {X : Type 0} (f : X → List Group) (xs : List X) (x : X) (ys : List X) → ys ≡ xs ++ x ∷ [] → made ≡ before ++ filter (has_places plan) (flat_map f xs)
+      → made ++ filter (has_places plan) (f x) ≡ before ++ filter (has_places plan) (flat_map f ys)
+  one_piece f xs x ys e so_far =
+      ap (λ gs. gs ++ filter (has_places plan) (f x)) so_far
+      ∙ append_assoc before (filter (has_places plan) (flat_map f xs)) (filter (has_places plan) (f x))
+      ∙ ap (λ gs. before ++ gs)
+      (sym (ap (λ zs. filter (has_places plan) (flat_map f zs)) e ∙ ap (filter (has_places plan)) (flat_map-append f xs (x ∷ []) ∙ ap (λ gs. flat_map f xs ++ gs) (append_nothing (f x)))
+      ∙ filter-append (has_places plan) (flat_map f xs) (f x)))
+
+  -- one processor more
+  pub one_processor : (n : ℕ) → made ≡ before ++ filter (has_places plan) (flat_map (groups_of_cpu plan) (range_with_len 0 n))
+      → made ++ filter (has_places plan) (groups_of_cpu plan n) ≡ before ++ filter (has_places plan) (flat_map (groups_of_cpu plan) (range_with_len 0 (n + 1)))
+  one_processor n = one_piece (groups_of_cpu plan) (range_with_len 0 n) n (range_with_len 0 (n + 1)) (range_next n)
+
+  -- one rank more
+  pub one_rank : (cpu i : ℕ) (r : Rank) → i < 14 → made ≡ before ++ filter (has_places plan) (flat_map (groups_of_rank plan cpu) (take i RANKS))
+      → made ++ filter (has_places plan) (groups_of_rank plan cpu (get_or RANKS i r)) ≡ before ++ filter (has_places plan) (flat_map (groups_of_rank plan cpu) (take (i + 1) RANKS))
+  one_rank cpu i r h = one_piece (groups_of_rank plan cpu) (take i RANKS) (get_or RANKS i r) (take (i + 1) RANKS) (take_more RANKS i r h)
 
 -- ---- how many there are
 

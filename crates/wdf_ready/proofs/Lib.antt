@@ -1,3 +1,4 @@
+pub mod InBlocks
 pub mod Grouping
 pub mod EmptyCpus
 pub mod AnyOf

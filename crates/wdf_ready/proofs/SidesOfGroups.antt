@@ -1,9 +1,9 @@
--- All events that a group has are of one side; and the first event of a side.
-use Rattle.std.specs.Prelude.{Result, Ok, Err, MatchResult}
-use Rattle.std.proofs.Common.{if◌then◌else◌, ◌≡◌, ℕ, ◌+◌, ◌-◌, ◌≤◌, Bool, true, false, List, [], ◌∷◌, ◌++◌, drop, find, length, option_map, slice_get, Option, Some, None, refl, sym, ap, ◌∙◌, arith}
+-- All events that a block has are of one side; and the first event of a side.
+use Rattle.std.specs.Prelude.{Result, Ok, Err}
+use Rattle.std.proofs.Common.{if◌then◌else◌, ◌≡◌, ℕ, ◌+◌, ◌-◌, ◌≤◌, Bool, true, false, List, [], ◌∷◌, ◌++◌, drop, find, length, option_map, slice_get, Option, Some, None, refl, sym, ap, ◌∙◌, append-nil, arith}
 use Rattle.std.specs.Option.{option_and_then}
 use Rattle.std.specs.Result.{result_ok}
-use Rattle.std.specs.List.{cons_option, filter_map, range_with_len}
+use Rattle.std.specs.List.{cons_option, filter_map, flat_map, range_with_len}
 use Rattle.wdf_base.specs.Meaning.{Meaning}
 use Rattle.wdf_base.specs.declared.event.Event.{Event}
 use Rattle.wdf_base.specs.declared.event.Event.TheVariants as event
@@ -43,8 +43,12 @@ use Rattle.wdf_model.specs.rules.Script.{intent_of}
 use Rattle.wdf_model.specs.rules.Steps.{event_of_frame, event_of_top, fault_event, intent_event, may, spends, view_of}
 use Rattle.wdf_ready.specs.Actors.{actor_of}
 use Rattle.wdf_offers.specs.Search.{events_of, offered, offered_from}
-use Rattle.wdf_ready.specs.Sides.{is_of, same_side, side_of, side_of_group}
-use Rattle.wdf_offers.proofs.Passing.{drops_all, group_opens}
+use Rattle.wdf_ready.specs.Sides.{is_of, same_side, side_of, side_of_block, side_of_group}
+use Rattle.wdf_offers.proofs.Passing.{no_piece, piece_opens}
+use Rattle.wdf_ready.specs.Blocks.{Grouping, ObjectLists, all_of, events_for, events_in, objects_of}
+use Rattle.wdf_ready.specs.declared.blocks.Block.{Block}
+use Rattle.wdf_ready.specs.declared.blocks.Block.TheVariants as block
+use Rattle.wdf_ready.proofs.InBlocks.{AtOrLeft, blocks_are}
 use Rattle.wdf_ready.specs.declared.sides.Side.{Side}
 use Rattle.wdf_ready.specs.declared.sides.Side.TheVariants as side
 
@@ -171,19 +175,7 @@ nothing_at_first : {T : Type 0} (xs : List T) (rest : ℕ) → length xs + rest 
 nothing_at_first [] rest h = refl
 nothing_at_first (x ∷ xs) rest h = absurd (omega arith)
 
-module _ {A : Type 0} (plan : Plan) (m : Meaning A) (S : State A) where
-  pub other_side : (g : Group) (s : Side) → same_side (side_of_group g) s ≡ false → None ≡ find (is_of s) (offered_from plan m S g 0)
-  other_side g s e = sym (none_found s (offered plan m S g) (side_of_group g) (offered_side plan m S g) e (range_with_len 0 (places_in plan S g - 0)))
-
-  pub own_side : (g : Group) (s : Side) (r : Result Event ℕ) → same_side (side_of_group g) s ≡ true
-      → MatchResult r (λ e. slice_get (offered_from plan m S g 0) 0 ≡ Some e) (λ rest. length (offered_from plan m S g 0) + rest ≡ 0) → result_ok r ≡ find (is_of s) (offered_from plan m S g 0)
-  own_side g s r e h = by r h ∙ sym (first_found s (offered plan m S g) (side_of_group g) (offered_side plan m S g) e (range_with_len 0 (places_in plan S g - 0)))
-    where
-      by : (x : Result Event ℕ) → MatchResult x (λ y. slice_get (offered_from plan m S g 0) 0 ≡ Some y) (λ rest. length (offered_from plan m S g 0) + rest ≡ 0) → result_ok x ≡ slice_get (offered_from plan m S g 0) 0
-      by (Ok y) k = sym k
-      by (Err rest) k = sym (nothing_at_first (offered_from plan m S g 0) rest k)
-
--- ---- the groups
+-- ---- of some lists
 
 either_found : (s : Side) (xs ys : List Event) → find (is_of s) xs ≡ None → find (is_of s) (xs ++ ys) ≡ find (is_of s) ys
 either_found s [] ys h = refl
@@ -201,24 +193,72 @@ stays_found s (x ∷ xs) ys e h = by (is_of s x) refl (stays_found s xs ys e)
     by true f rest = rw f (rw f at h)
     by false f rest = rw f (rest (rw f at h))
 
+-- where the first of either list is of the side, that of both is
+first_of_both : (s : Side) (xs ys : List Event) → find (is_of s) xs ≡ slice_get xs 0 → find (is_of s) ys ≡ slice_get ys 0 → find (is_of s) (xs ++ ys) ≡ slice_get (xs ++ ys) 0
+first_of_both s [] ys h k = k
+first_of_both s (x ∷ xs) ys h k = stays_found s (x ∷ xs) ys x h
+
+-- ---- of a block
+
+module _ {A : Type 0} (plan : Plan) (m : Meaning A) (S : State A) where
+  none_of_group : (g : Group) (s : Side) → same_side (side_of_group g) s ≡ false → find (is_of s) (offered_from plan m S g 0) ≡ None
+  none_of_group g s e = none_found s (offered plan m S g) (side_of_group g) (offered_side plan m S g) e (range_with_len 0 (places_in plan S g - 0))
+
+  first_of_group : (g : Group) (s : Side) → same_side (side_of_group g) s ≡ true → find (is_of s) (offered_from plan m S g 0) ≡ slice_get (offered_from plan m S g 0) 0
+  first_of_group g s e = first_found s (offered plan m S g) (side_of_group g) (offered_side plan m S g) e (range_with_len 0 (places_in plan S g - 0))
+
+  -- those of the objects of a processor
+  none_for : (cpu : ℕ) (r : Rank) (s : Side) → same_side (side.Processor cpu) s ≡ false → (ids : List ℕ) → find (is_of s) (events_for plan m S cpu r ids) ≡ None
+  none_for cpu r s e [] = refl
+  none_for cpu r s e (o ∷ ids) =
+      either_found s (offered_from plan m S (group.StartsFor cpu r o) 0) (events_for plan m S cpu r ids) (none_of_group (group.StartsFor cpu r o) s e) ∙ none_for cpu r s e ids
+
+  first_for : (cpu : ℕ) (r : Rank) (s : Side) → same_side (side.Processor cpu) s ≡ true → (ids : List ℕ) → find (is_of s) (events_for plan m S cpu r ids) ≡ slice_get (events_for plan m S cpu r ids) 0
+  first_for cpu r s e [] = refl
+  first_for cpu r s e (o ∷ ids) =
+      first_of_both s (offered_from plan m S (group.StartsFor cpu r o) 0) (events_for plan m S cpu r ids) (first_of_group (group.StartsFor cpu r o) s e) (first_for cpu r s e ids)
+
+  none_in : (o : ObjectLists) (b : Block) (s : Side) → same_side (side_of_block b) s ≡ false → find (is_of s) (events_in plan m S o b) ≡ None
+  none_in o (block.One g) s e = ap (find (is_of s)) (append-nil (offered_from plan m S g 0)) ∙ none_of_group g s e
+  none_in o (block.ForEach cpu r) s e = none_for cpu r s e (objects_of o r)
+
+  first_in : (o : ObjectLists) (b : Block) (s : Side) → same_side (side_of_block b) s ≡ true → find (is_of s) (events_in plan m S o b) ≡ slice_get (events_in plan m S o b) 0
+  first_in o (block.One g) s e = ap (find (is_of s)) (append-nil (offered_from plan m S g 0)) ∙ first_of_group g s e ∙ ap (λ es. slice_get es 0) (sym (append-nil (offered_from plan m S g 0)))
+  first_in o (block.ForEach cpu r) s e = first_for cpu r s e (objects_of o r)
+
+  pub other_side : (o : ObjectLists) (b : Block) (s : Side) → same_side (side_of_block b) s ≡ false → None ≡ find (is_of s) (events_in plan m S o b)
+  other_side o b s e = sym (none_in o b s e)
+
+  pub own_side : (o : ObjectLists) (b : Block) (s : Side) (r : Result Event ℕ) → same_side (side_of_block b) s ≡ true → AtOrLeft r (events_in plan m S o b) 0 → result_ok r ≡ find (is_of s) (events_in plan m S o b)
+  own_side o b s r e h = by r h ∙ sym (first_in o b s e)
+    where
+      by : (x : Result Event ℕ) → AtOrLeft x (events_in plan m S o b) 0 → result_ok x ≡ slice_get (events_in plan m S o b) 0
+      by (Ok y) k = sym k
+      by (Err rest) k = sym (nothing_at_first (events_in plan m S o b) rest k)
+
+-- ---- the blocks
+
 none_there : (o : Option Event) → ((e : Event) → o ≡ Some e → ⊥) → o ≡ None
 none_there None h = refl
 none_there (Some e) h = absurd (h e refl)
 
-module _ {A : Type 0} (plan : Plan) (m : Meaning A) (S : State A) (groups : List Group) (s : Side) (i : ℕ) where
-  -- in the next group
-  pub found_here : (g : Group) (e : Event) → slice_get groups i ≡ Some g → find (is_of s) (offered_from plan m S g 0) ≡ Some e
-      → find (is_of s) (events_of plan m S groups) ≡ find (is_of s) (events_of plan m S (drop i groups)) → Some e ≡ find (is_of s) (events_of plan m S groups)
-  found_here g e at h so_far =
-      sym (so_far ∙ ap (find (is_of s)) (group_opens plan m S groups (events_of plan m S groups) i g at)
-      ∙ stays_found s (offered_from plan m S g 0) (events_of plan m S (drop (i + 1) groups)) e h)
+module _ {A : Type 0} (plan : Plan) (m : Meaning A) (S : State A) (all : Grouping) (s : Side) (i : ℕ) where
+  abbrev one : Block → List Event
+  one b = events_in plan m S all.objects b
+
+  -- in the next block
+  pub found_here : (b : Block) (e : Event) → slice_get all.blocks i ≡ Some b → find (is_of s) (one b) ≡ Some e
+      → find (is_of s) (flat_map one all.blocks) ≡ find (is_of s) (flat_map one (drop i all.blocks)) → Some e ≡ find (is_of s) (events_of plan m S (all_of all))
+  found_here b e at h so_far =
+      sym (ap (find (is_of s)) (blocks_are plan m S all.objects all.blocks) ∙ so_far ∙ ap (find (is_of s)) (piece_opens one all.blocks i b at)
+      ∙ stays_found s (one b) (flat_map one (drop (i + 1) all.blocks)) e h)
 
   -- or further on
-  pub found_later : (g : Group) (r : Option Event) → slice_get groups i ≡ Some g → r ≡ find (is_of s) (offered_from plan m S g 0) → ((e : Event) → r ≡ Some e → ⊥)
-      → find (is_of s) (events_of plan m S groups) ≡ find (is_of s) (events_of plan m S (drop i groups)) → find (is_of s) (events_of plan m S groups) ≡ find (is_of s) (events_of plan m S (drop (i + 1) groups))
-  found_later g r at is none so_far =
-      so_far ∙ ap (find (is_of s)) (group_opens plan m S groups (events_of plan m S groups) i g at)
-      ∙ either_found s (offered_from plan m S g 0) (events_of plan m S (drop (i + 1) groups)) (sym is ∙ none_there r none)
+  pub found_later : (b : Block) (r : Option Event) → slice_get all.blocks i ≡ Some b → r ≡ find (is_of s) (one b) → ((e : Event) → r ≡ Some e → ⊥)
+      → find (is_of s) (flat_map one all.blocks) ≡ find (is_of s) (flat_map one (drop i all.blocks)) → find (is_of s) (flat_map one all.blocks) ≡ find (is_of s) (flat_map one (drop (i + 1) all.blocks))
+  found_later b r at is none so_far =
+      so_far ∙ ap (find (is_of s)) (piece_opens one all.blocks i b at)
+      ∙ either_found s (one b) (flat_map one (drop (i + 1) all.blocks)) (sym is ∙ none_there r none)
 
-  pub no_groups : length groups ≤ i → find (is_of s) (events_of plan m S (drop i groups)) ≡ None
-  no_groups past = ap (λ gs. find (is_of s) (events_of plan m S gs)) (drops_all groups i past)
+  pub found_nowhere : length all.blocks ≤ i → find (is_of s) (flat_map one all.blocks) ≡ find (is_of s) (flat_map one (drop i all.blocks)) → None ≡ find (is_of s) (events_of plan m S (all_of all))
+  found_nowhere past so_far = sym (ap (find (is_of s)) (blocks_are plan m S all.objects all.blocks) ∙ so_far ∙ ap (find (is_of s)) (no_piece one all.blocks i past))

@@ -1,4 +1,5 @@
 pub mod Actors
 pub mod Alike
+pub mod Blocks
 pub mod Counts
 pub mod Sides

@@ -7,6 +7,8 @@ use Rattle.wdf_base.specs.declared.event.Actor.TheVariants as actor
 use Rattle.wdf_model.specs.declared.enums.Group.{Group}
 use Rattle.wdf_model.specs.declared.enums.Group.TheVariants as group
 use Rattle.wdf_ready.specs.Actors.{actor_of}
+use Rattle.wdf_ready.specs.declared.blocks.Block.{Block}
+use Rattle.wdf_ready.specs.declared.blocks.Block.TheVariants as block
 use Rattle.wdf_ready.specs.declared.sides.Side.{Side}
 use Rattle.wdf_ready.specs.declared.sides.Side.TheVariants as side
 
@@ -40,3 +42,8 @@ side_of_group group.Completions = side.Framework
 side_of_group group.Cleanups = side.Framework
 side_of_group group.Destroys = side.Framework
 side_of_group group.Posts = side.Agents
+
+-- and that of all events of a block
+abbrev pub side_of_block : Block → Side
+side_of_block (block.One g) = side_of_group g
+side_of_block (block.ForEach cpu r) = side.Processor cpu

@@ -1,5 +1,5 @@
-//! The search over the groups and their places.
-ghost use Rattle.std.specs.Prelude.{◌≡◌, ◌+◌, ◌<◌, ◌≤◌, ◌^◌, [], Some, None, length, position, slice_get, option_map, MatchOption, MatchResult};
+//! The search over the places of a group.
+ghost use Rattle.std.specs.Prelude.{◌≡◌, ◌+◌, ◌<◌, ◌≤◌, ◌^◌, [], Some, None, length, slice_get, option_map, MatchOption, MatchResult};
 ghost use Rattle.wdf_model.specs.declared.enums.Group.TheVariants as group;
 ghost use Rattle.wdf_model.specs.rules.Groups as groups;
 ghost use Rattle.wdf_ready.specs.Actors as actors;
@@ -194,7 +194,7 @@ fn unparks_at<A: Agent>(
 
 /// How many starts of a rank may come on a processor for the requests of an object. They are counted without a search where
 /// just those may come that are counted for it.
-fn starts_for_len<A: Agent>(
+pub(crate) fn starts_for_len<A: Agent>(
     plan: &IndexedPlan,
     parts: &Parts<A>,
     cpu: u8,
@@ -215,7 +215,7 @@ fn starts_for_len<A: Agent>(
 }
 
 /// The k-th of them, or how many places of a list are left after them.
-fn starts_for_at<A: Agent>(
+pub(crate) fn starts_for_at<A: Agent>(
     plan: &IndexedPlan,
     parts: &Parts<A>,
     cpu: u8,
@@ -385,30 +385,9 @@ fn walked_at<A: Agent>(
     Err(left)
 }
 
-/// The k-th of the events that may come of all these groups; `None` exactly where there are fewer.
-pub fn allowed_at<A: Agent>(
-    plan: &IndexedPlan,
-    parts: &Parts<A>,
-    all: &[Group],
-    k: usize,
-) -> Option<Event>
-    requires agents { length parts.now.agents ≤ 2 ^ 16 }
-    requires settled { IsSettled plan.now parts.now }
-    ensures { result ≡ slice_get (search.events_of plan.now A.meaning parts.now all.now) k }
-{
-    let mut left = k;
-    for group in all {
-        match offered_at(plan, parts, *group, left) {
-            Ok(event) => return Some(event),
-            Err(rest) => left = rest,
-        }
-    }
-    None
-}
-
 /// The first event of an actor among those that may come of a group's places, by its place among them; or how
 /// many may come, none of which is the actor's.
-fn first_in<A: Agent>(
+pub(crate) fn first_in<A: Agent>(
     plan: &IndexedPlan,
     parts: &Parts<A>,
     group: Group,
@@ -432,26 +411,4 @@ fn first_in<A: Agent>(
         at = place + 1;
     }
     Err(count)
-}
-
-/// The place of the first event of an actor among those that may come of all these groups; `None` exactly
-/// where there is none.
-pub fn first_by<A: Agent>(
-    plan: &IndexedPlan,
-    parts: &Parts<A>,
-    all: &[Group],
-    actor: Actor,
-) -> Option<usize>
-    requires agents { length parts.now.agents ≤ 2 ^ 16 }
-    requires few { length all.now < 2 ^ 20 }
-    ensures { result ≡ position (actors.is_by actor) (search.events_of plan.now A.meaning parts.now all.now) }
-{
-    let mut before = 0;
-    for group in all {
-        match first_in(plan, parts, *group, actor) {
-            Ok(place) => return Some(before + place),
-            Err(count) => before += count,
-        }
-    }
-    None
 }

@@ -2,10 +2,12 @@
 ghost use Rattle.std.specs.Prelude.{◌≡◌, ◌≤◌, ◌^◌, find, length};
 ghost use Rattle.wdf_offers.specs.Leaving.{IsSettled};
 ghost use Rattle.wdf_offers.specs.Search as search;
-ghost use Rattle.wdf_ready.specs.Sides.{is_of as is_event_of, same_side as is_same_side, side_of, side_of_group};
+ghost use Rattle.wdf_ready.specs.Sides.{is_of as is_event_of, same_side as is_same_side, side_of, side_of_block, side_of_group};
+ghost use Rattle.wdf_ready.specs.Blocks.{all_of, events_in};
 
+use crate::across::block_at;
 use crate::actor::actor_of;
-use crate::search::offered_at;
+use crate::blocks::{Block, Blocks};
 use wdf_base::{Actor, Agent, Event};
 use wdf_model::Group;
 use wdf_parts::Parts;
@@ -66,19 +68,30 @@ pub fn is_of(side: Side, event: &Event) -> bool
     same_side(of_actor(actor_of(event)), side)
 }
 
-/// The first event of a side among those that may come of a group's places, if the group has such.
+/// The side of all events that a block has.
+fn of_block(block: Block) -> Side
+    ensures { result ≡ side_of_block block }
+{
+    match block {
+        Block::One(group) => of_group(group),
+        Block::ForEach { cpu, .. } => Side::Processor(cpu),
+    }
+}
+
+/// The first event of a side among those that may come of a block, if the block has such.
 fn first_in<A: Agent>(
     plan: &IndexedPlan,
     parts: &Parts<A>,
-    group: Group,
+    all: &Blocks,
+    block: Block,
     side: Side,
 ) -> Option<Event>
     requires agents { length parts.now.agents ≤ 2 ^ 16 }
     requires settled { IsSettled plan.now parts.now }
-    ensures { result ≡ find (is_event_of side) (search.offered_from plan.now A.meaning parts.now group 0) }
+    ensures { result ≡ find (is_event_of side) (events_in plan.now A.meaning parts.now all.now.objects block) }
 {
-    if same_side(of_group(group), side) {
-        offered_at(plan, parts, group, 0).ok()
+    if same_side(of_block(block), side) {
+        block_at(plan, parts, all, block, 0).ok()
     } else {
         None
     }
@@ -88,15 +101,15 @@ fn first_in<A: Agent>(
 pub fn first_of<A: Agent>(
     plan: &IndexedPlan,
     parts: &Parts<A>,
-    all: &[Group],
+    all: &Blocks,
     side: Side,
 ) -> Option<Event>
     requires agents { length parts.now.agents ≤ 2 ^ 16 }
     requires settled { IsSettled plan.now parts.now }
-    ensures { result ≡ find (is_event_of side) (search.events_of plan.now A.meaning parts.now all.now) }
+    ensures { result ≡ find (is_event_of side) (search.events_of plan.now A.meaning parts.now (all_of all.now)) }
 {
-    for group in all {
-        if let Some(event) = first_in(plan, parts, *group, side) {
+    for at in 0..all.len() {
+        if let Some(event) = first_in(plan, parts, all, all.at(at), side) {
             return Some(event);
         }
     }

@@ -2,6 +2,7 @@
 ghost use Rattle.std.specs.Prelude.{◌≡◌};
 ghost use Rattle.wdf_ready.specs.Counts as counts;
 
+use crate::blocks::Block;
 use wdf_base::{Event, Rank};
 use wdf_model::Group;
 
@@ -53,6 +54,20 @@ impl Stale {
             Stale::OfAgents => reads_agents(group),
             Stale::OfTime => reads_agents(group) || is_timed(group),
             Stale::Everything => true,
+        }
+    }
+
+    /// Whether a block has such a group. Of a rank for requests either each group is one or none, whatever its object.
+    pub(crate) fn has_block(self, block: Block) -> bool
+        ensures { result ≡ counts.has_stale self block }
+    {
+        match block {
+            Block::One(group) => self.has(group),
+            Block::ForEach { cpu, rank } => self.has(Group::StartsFor {
+                cpu,
+                rank,
+                object: 0,
+            }),
         }
     }
 }

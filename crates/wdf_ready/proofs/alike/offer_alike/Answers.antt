@@ -1,15 +1,12 @@
 -- Starts of one rank on two empty processors.
-use Rattle.wdf_ready.proofs.EmptyCpus.{alike_for, alike_starts}
+use Rattle.wdf_ready.proofs.EmptyCpus.{alike_blocks, alike_ones}
 use Rattle.wdf_ready.proofs.alike.offer_alike.Goals as goal
 
-pub returns-then-share_rank : goal.returns-then-share_rank
-returns-then-share_rank g c = λ yes.
-    let same = c.share_rank.ensures.same c.if-share_rank.true in
-    let shared = c.share_rank.ensures.shared c.if-share_rank.true in
-    rw (c.in-Starts-Starts.is-0, c.in-Starts-Starts.is-1, ← same) (alike_starts c.args.plan.now g.A.Agent.meaning c.args.parts.now _ _ (c.are_alike.ensures yes) _ shared)
+pub returns-in-One-One : goal.returns-in-One-One
+returns-in-One-One g c = λ yes.
+    rw (c.in-One-One.is-0, c.in-One-One.is-1) (alike_ones c.args.plan.now g.A.Agent.meaning c.args.parts.now c.args.all.now.objects c.in-One-One.group c.in-One-One.same (c.starts_alike.ensures yes))
 
-pub returns-then-share_rank-2 : goal.returns-then-share_rank-2
-returns-then-share_rank-2 g c = λ yes.
-    let same = c.share_rank-in-StartsFor-StartsFor.ensures.same c.if-share_rank-2.true in
-    rw (c.in-StartsFor-StartsFor.is-0, c.in-StartsFor-StartsFor.is-1, ← same, ← c.if-o-p.true)
-    (alike_for c.args.plan.now g.A.Agent.meaning c.args.parts.now _ _ (c.are_alike-then-share_rank-2.ensures yes) _ _)
+pub returns-then-same_rank : goal.returns-then-same_rank
+returns-then-same_rank g c = λ yes.
+    let same = c.same_rank.ensures c.if-same_rank.true in
+    rw (c.in-ForEach-ForEach.is-0, c.in-ForEach-ForEach.is-1, ← same) (alike_blocks c.args.plan.now g.A.Agent.meaning c.args.parts.now _ _ (c.are_alike.ensures yes) c.args.all.now.objects _)

@@ -7,4 +7,4 @@ use Rattle.wdf_core.proofs.machine.Core.any_runs.Goals as goal
 pub returns : goal.returns
 returns g c = λ yes.
     let going : goes_on c.self.inside.plan c.self.inside.journal.items ≡ true = (sym (rw (← c.self.view_is) at c.goes_on.ensures)) ∙ c.if-not-goes_on.false in
-    rw (← c.self.view_is) (some_follows g.A.Agent.meaning c.self.inside.plan c.self.inside.journal.items c.self.inside.parts c.self.inside.groups.items _ c.self.invariant.way going (rw c.deref.ensures.value at (c.any_own.ensures yes)))
+    rw (← c.self.view_is) (some_follows g.A.Agent.meaning c.self.inside.plan c.self.inside.journal.items c.self.inside.parts _ _ c.self.invariant.way going (c.any_own.ensures yes))

@@ -8,9 +8,9 @@ use Rattle.wdf_core.proofs.machine.Core.first_of_side.Goals as goal
 pub returns-then-not-goes_on : goal.returns-then-not-goes_on
 returns-then-not-goes_on g c =
     let stopped : goes_on c.self.inside.plan c.self.inside.journal.items ≡ false = (sym (rw (← c.self.view_is) at c.goes_on.ensures)) ∙ c.if-not-goes_on.true in
-    rw (← c.self.view_is) (side_stops g.A.Agent.meaning c.self.inside.plan c.self.inside.journal.items c.self.inside.parts c.self.inside.groups.items _ c.self.invariant.way (is_of c.args.side) stopped)
+    rw (← c.self.view_is) (side_stops g.A.Agent.meaning c.self.inside.plan c.self.inside.journal.items c.self.inside.parts _ _ c.self.invariant.way (is_of c.args.side) stopped)
 
 pub returns-in-Some : goal.returns-in-Some
 returns-in-Some g c =
     let going : goes_on c.self.inside.plan c.self.inside.journal.items ≡ true = (sym (rw (← c.self.view_is) at c.goes_on.ensures)) ∙ c.if-not-goes_on.false in
-    rw (← c.self.view_is) (side_found g.A.Agent.meaning c.self.inside.plan c.self.inside.journal.items c.self.inside.parts c.self.inside.groups.items _ c.self.invariant.way (is_of c.args.side) c.in-Some.event going (sym (rw (← c.self.view_is) at c.in-Some.ensures)))
+    rw (← c.self.view_is) (side_found g.A.Agent.meaning c.self.inside.plan c.self.inside.journal.items c.self.inside.parts _ _ c.self.invariant.way (is_of c.args.side) c.in-Some.event going (sym (rw (← c.self.view_is) at c.in-Some.ensures)))

@@ -4,4 +4,4 @@ use Rattle.wdf_core.proofs.machine.Core.opened.Goals as goal
 
 pub begun-requires-clause-under_way : goal.begun-requires-clause-under_way
 begun-requires-clause-under_way g c =
-    opens g.A.Agent.meaning c.args.plan c.in-Ok.parts c.args.room.groups.items _ c.requires.resolved c.in-Ok.ensures c.requires.groups c.requires.space
+    opens g.A.Agent.meaning c.args.plan c.in-Ok.parts _ _ c.requires.resolved c.in-Ok.ensures c.requires.groups c.requires.space

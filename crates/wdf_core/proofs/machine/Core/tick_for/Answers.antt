@@ -12,7 +12,7 @@ returns-then-not-is_by g c =
     let going = rw (← c.self.view_is) at c.requires.going in
     let none = rw (← c.self.view_is) at c.requires.none in
     let other : is_by c.args.actor (event.Tick ((state_after c.self.inside.plan g.A.Agent.meaning c.self.inside.journal.items).clock + 1)) ≡ false = ap (is_by c.args.actor) (sym (rw (← c.self.view_is) at c.tick.ensures)) ∙ sym c.is_by.ensures ∙ c.if-not-is_by.true in
-    rw (← c.self.view_is) (none_there g.A.Agent.meaning c.self.inside.plan c.self.inside.journal.items c.self.inside.parts c.self.inside.groups.items _ c.self.invariant.way (is_by c.args.actor) going none other)
+    rw (← c.self.view_is) (none_there g.A.Agent.meaning c.self.inside.plan c.self.inside.journal.items c.self.inside.parts _ _ c.self.invariant.way (is_by c.args.actor) going none other)
 
 pub returns-then-allowed_len-gt0 : goal.returns-then-allowed_len-gt0
 returns-then-allowed_len-gt0 g c =
@@ -22,11 +22,11 @@ returns-then-allowed_len-gt0 g c =
     let counted = rw (← c.self.view_is) at c.allowed_len.ensures.length in
     rw (← c.self.view_is) (elim c.then-allowed_len-gt0.branch [
       | then-allowed_len-gt0-via-then-allowed_len-gt0 w ↦
-          sym none ∙ first_allowed m c.self.inside.plan c.self.inside.journal.items c.self.inside.parts c.self.inside.groups.items _ c.self.invariant.way (is_by c.args.actor) going (omega (arith, w.if-allowed_len-gt0.true))
+          sym none ∙ first_allowed m c.self.inside.plan c.self.inside.journal.items c.self.inside.parts _ _ c.self.invariant.way (is_by c.args.actor) going (omega (arith, w.if-allowed_len-gt0.true))
       | then-allowed_len-gt0-via-else-allowed_len-gt0+then-not-waits_for_time w ↦
           let empty : length (allowed c.self.inside.plan m (state_after c.self.inside.plan m c.self.inside.journal.items)) ≡ 0 = omega (arith, w.if-allowed_len-gt0.false) in
           let waits : waits_for_time m (state_after c.self.inside.plan m c.self.inside.journal.items) ≡ false = (sym (rw (← c.self.view_is) at w.waits_for_time.ensures)) ∙ w.if-not-waits_for_time.true in
-          none_by_tick m c.self.inside.plan c.self.inside.journal.items c.self.inside.parts c.self.inside.groups.items _ c.self.invariant.way (is_by c.args.actor) going empty waits
+          none_by_tick m c.self.inside.plan c.self.inside.journal.items c.self.inside.parts _ _ c.self.invariant.way (is_by c.args.actor) going empty waits
     ])
 
 pub returns : goal.returns
@@ -37,4 +37,4 @@ returns g c =
     let empty : length (allowed c.self.inside.plan m (state_after c.self.inside.plan m c.self.inside.journal.items)) ≡ 0 = omega (arith, c.if-allowed_len-gt0.false) in
     let waits : waits_for_time m (state_after c.self.inside.plan m c.self.inside.journal.items) ≡ true = (sym (rw (← c.self.view_is) at c.waits_for_time.ensures)) ∙ c.if-not-waits_for_time.false in
     let by : is_by c.args.actor (event.Tick ((state_after c.self.inside.plan m c.self.inside.journal.items).clock + 1)) ≡ true = ap (is_by c.args.actor) (sym (rw (← c.self.view_is) at c.tick.ensures)) ∙ sym c.is_by.ensures ∙ c.if-not-is_by.false in
-    rw (← c.self.view_is) (first_by_tick m c.self.inside.plan c.self.inside.journal.items c.self.inside.parts c.self.inside.groups.items _ c.self.invariant.way (is_by c.args.actor) true going empty waits by)
+    rw (← c.self.view_is) (first_by_tick m c.self.inside.plan c.self.inside.journal.items c.self.inside.parts _ _ c.self.invariant.way (is_by c.args.actor) true going empty waits by)

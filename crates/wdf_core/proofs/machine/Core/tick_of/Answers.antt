@@ -11,16 +11,16 @@ returns-then-not-is_of g c =
     let going = rw (← c.self.view_is) at c.requires.going in
     let none = rw (← c.self.view_is) at c.requires.none in
     let other : is_of c.args.side (event.Tick ((state_after c.self.inside.plan g.A.Agent.meaning c.self.inside.journal.items).clock + 1)) ≡ false = ap (is_of c.args.side) (sym (rw (← c.self.view_is) at c.tick.ensures)) ∙ sym c.is_of.ensures ∙ c.if-not-is_of.true in
-    rw (← c.self.view_is) (side_other g.A.Agent.meaning c.self.inside.plan c.self.inside.journal.items c.self.inside.parts c.self.inside.groups.items _ c.self.invariant.way (is_of c.args.side) going none other)
+    rw (← c.self.view_is) (side_other g.A.Agent.meaning c.self.inside.plan c.self.inside.journal.items c.self.inside.parts _ _ c.self.invariant.way (is_of c.args.side) going none other)
 
 pub returns-in-Some : goal.returns-in-Some
 returns-in-Some g c =
     let going = rw (← c.self.view_is) at c.requires.going in
     let none = rw (← c.self.view_is) at c.requires.none in
-    rw (← c.self.view_is) (side_waits g.A.Agent.meaning c.self.inside.plan c.self.inside.journal.items c.self.inside.parts c.self.inside.groups.items _ c.self.invariant.way (is_of c.args.side) _ going none (sym (rw (← c.self.view_is) at c.in-Some.ensures)))
+    rw (← c.self.view_is) (side_waits g.A.Agent.meaning c.self.inside.plan c.self.inside.journal.items c.self.inside.parts _ _ c.self.invariant.way (is_of c.args.side) _ going none (sym (rw (← c.self.view_is) at c.in-Some.ensures)))
 
 pub returns-in-None : goal.returns-in-None
 returns-in-None g c =
     let going = rw (← c.self.view_is) at c.requires.going in
     let by : is_of c.args.side (event.Tick ((state_after c.self.inside.plan g.A.Agent.meaning c.self.inside.journal.items).clock + 1)) ≡ true = ap (is_of c.args.side) (sym (rw (← c.self.view_is) at c.tick.ensures)) ∙ sym c.is_of.ensures ∙ c.if-not-is_of.false in
-    rw (← c.self.view_is) ((rw (← c.self.view_is) at c.tick_if_waiting.ensures) ∙ side_ticks g.A.Agent.meaning c.self.inside.plan c.self.inside.journal.items c.self.inside.parts c.self.inside.groups.items _ c.self.invariant.way (is_of c.args.side) going (sym (rw (← c.self.view_is) at c.in-None.ensures)) by)
+    rw (← c.self.view_is) ((rw (← c.self.view_is) at c.tick_if_waiting.ensures) ∙ side_ticks g.A.Agent.meaning c.self.inside.plan c.self.inside.journal.items c.self.inside.parts _ _ c.self.invariant.way (is_of c.args.side) going (sym (rw (← c.self.view_is) at c.in-None.ensures)) by)

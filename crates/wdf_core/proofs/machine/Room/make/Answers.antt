@@ -9,5 +9,5 @@ returns-clause-space c = omega (arith, c.in_ok-journal.ensures.exact, ap (λ (P 
 
 pub returns-clause-counts : goal.returns-clause-counts
 returns-clause-counts c =
-    let same : c.len.result ≡ length c.in_ok-groups.groups.items = omega (arith, c.len.ensures) in
+    let same : c.len.result ≡ length c.in_ok-groups.groups.blocks = omega (arith, c.len.ensures) in
     subst (λ n. Unknown n c.in_ok-counts.counts) same c.in_ok-counts.ensures

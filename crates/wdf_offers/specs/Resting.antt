@@ -1,0 +1,17 @@
+-- When no callback of a rank for requests starts on a processor, on whatever object. (own)
+use Rattle.std.specs.Prelude.{ℕ, Bool, false, not, ◌==◌, ◌||◌, length, Option, Some, None}
+use Rattle.wdf_base.specs.declared.rank.Rank.{Rank}
+use Rattle.wdf_model.specs.State.{State}
+use Rattle.wdf_model.specs.rules.Starts.{level_fits}
+use Rattle.wdf_offers.specs.declared.for_requests.Herd.{Herd}
+use Rattle.wdf_offers.specs.ForRequests.{herd_of, whole}
+
+-- no request is counted for whatever queue; it isn't said of a rank whose callbacks aren't counted by queue
+abbrev pub none_counted : {A : Type 0} → State A → Option Herd → Bool
+none_counted S None = false
+none_counted S (Some h) = length (whole h S) == 0
+
+-- The callbacks of a rank rest on a processor: it is at DISPATCH_LEVEL or above, at which none for a request starts; or they
+-- are due for no request.
+abbrev pub rests : {A : Type 0} → State A → ℕ → Rank → Bool
+rests S cpu r = not (level_fits S cpu 2) || none_counted S (herd_of r)
