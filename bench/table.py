@@ -9,9 +9,10 @@ Each kind of work is run at several sizes by `order`, by `seed 5`, by `replay` o
 has the size and the events of the run by the seed, and for each word microseconds of the processor for each event, the
 exponent of growth since the size before (1.0: twice the events take twice the time) and the most memory in MB. That is never
 less than what this script has itself, up to some 45 MB, since the system counts what a process had before it became the program. The seconds
-are the best of two runs; `run` has other events each time, and its column is by its own. An exponent is left out where the
-smaller size took less than 20 ms. `replay` reads 1 MiB at most, and says "too long" of more. Where KINDs are named, only they
-are run.
+are the best of two runs or more, until all took a fifth of a second; `run` has other events each time, and its column is by its
+own. An exponent is of what is left without the start of the program, which is the time of a run of no work; it is left out where
+less than 2 ms are left of the smaller size. `replay` reads 1 MiB at most, and says "too long" of more. Where KINDs are named,
+only they are run.
 
 The kinds are reads, removals of a device, interrupts, a loop, locks, cancels in a queue, queues, queues that declare callbacks
 for requests ("declaring"; "on eight" processors), devices, timers that are due at ticks of their own, work items, apps, what `gen 7` writes, children of one object and classes. Then those in which much waits at once: frames that are
@@ -27,6 +28,11 @@ import machine
 from measure import PROGRAM, run
 
 RUNS = 2
+# How many seconds the runs of one text take at least, all together, and how many runs there are at most.
+ENOUGH = 0.2
+MOST_RUNS = 60
+# What of a time is too short for an exponent, in seconds.
+SHORT = 0.002
 # In how many bytes at its end a trace has the line of its ending.
 LAST = 1 << 17
 # How many bytes an input has at most.
@@ -206,7 +212,7 @@ def events_of(trace):
 def best(program, words, text):
     """The answer of a run, its best seconds of the processor, and the most memory."""
     answer, seconds, memory = b"", [], []
-    for _ in range(RUNS):
+    while len(seconds) < RUNS or (sum(seconds) < ENOUGH and len(seconds) < MOST_RUNS):
         answer, status, one = run(words, text, program)
         if status not in (0, 4, 5):
             sys.exit(f"{words} ended with status {status}: {answer[:100]!r}")
@@ -232,14 +238,14 @@ def columns(program, text):
     return count, figures
 
 
-def cell(now, before):
-    """What a column says of one size, beside the size before."""
+def cell(now, before, start):
+    """What a column says of one size, beside the size before, where a run of no work takes `start` seconds."""
     if now is None:
         return f"{'too long':>9}          "
     events, seconds, memory = now
     grown = "    "
-    if before and before[1] >= 0.02 and events != before[0]:
-        grown = f"{math.log(seconds / before[1]) / math.log(events / before[0]):4.2f}"
+    if before and before[1] - start >= SHORT and seconds > start and events != before[0]:
+        grown = f"{math.log((seconds - start) / (before[1] - start)) / math.log(events / before[0]):4.2f}"
     return f"{1e6 * seconds / events:9.2f} {grown} {memory:4.0f}"
 
 
@@ -250,11 +256,13 @@ def main():
     order = ("order", "seed 5", "replay", "run")
     print(f"{'':24}" + "".join(f"| {name:17} " for name in order))
     print(f"{'work':12}{'size':>6}{'events':>6}" + "| us/event grow  MB " * 4, flush=True)
+    start = best(program, "order", machine.opening().encode())[1]
+    print(f"a run of no work: {1e3 * start:.2f} ms", flush=True)
     for name in names:
         before = {}
         for size in KINDS[name][1]:
             count, figures = columns(program, scenario(program, KINDS[name][0], size))
-            print(f"{name:12}{size:6}{count:6}" + "".join(f"|{cell(figures.get(w), before.get(w))} " for w in order), flush=True)
+            print(f"{name:12}{size:6}{count:6}" + "".join(f"|{cell(figures.get(w), before.get(w), start)} " for w in order), flush=True)
             before = figures
 
 

@@ -61,9 +61,9 @@ def main():
         wrong += written(room)
     if table.events_of(TRACE) != 24 or not ends(table.events_of, b"1 tick 1\n"):
         wrong.append("how many events an ending tells")
-    if table.cell((2000, 0.08, 7), (1000, 0.02, 7)).split() != ["40.00", "2.00", "7"]:
+    if table.cell((2000, 0.081, 7), (1000, 0.021, 7), 0.001).split() != ["40.50", "2.00", "7"]:
         wrong.append("an exponent")
-    if table.cell((2000, 0.08, 7), (1000, 0.019, 7)).split() != ["40.00", "7"] or table.cell(None, None).split() != ["too", "long"]:
+    if table.cell((2000, 0.08, 7), (1000, 0.0029, 7), 0.001).split() != ["40.00", "7"] or table.cell(None, None, 0.001).split() != ["too", "long"]:
         wrong.append("a cell without an exponent")
     crates = functions.crates_of(CRATES)
     if crates != {"low": [], "middle": ["low"], "high": ["middle", "kit_crate"]} or functions.below(crates, "high") != ["middle", "low"]:

@@ -88,6 +88,26 @@ pub fn takes_once()
 }
 """
 EDIT = "file: src/lib.rt\nold:     queue.front\nnew:     0\n"
+# Another file, with nothing that cites a definition: a constant, a method, and a function after it.
+FILE = """/// How many.
+pub const MANY: [u32; 2] = [
+    1,
+    2,
+];
+
+impl Queue {
+    /// What nobody asks.
+    fn asks(&self) -> u32 {
+        let most = MANY[0];
+        most
+    }
+
+    fn takes(&self) -> u32 {
+        7
+    }
+}
+"""
+FILE_EDIT = "file: src/other.rt\nold:     2,\nnew:     3,\nold: most = MANY[0]\nnew: most = MANY[1]\nfile: src/lib.rt\nold:     takes(queue)\nnew:     0\n"
 LAWS = "/// Another law.\npub fn drops_once()\n{\n}\n"
 RULES = """Queues
 a queue gives its front | takes
@@ -96,20 +116,28 @@ its front is kept | Queue.front | - | front_is_zero
 a queue waits | waits (wdf_model/specs/Queues.antt) | - | -
 one of two definitions | takes, waits (wdf_model/specs/Queues.antt) | - | -
 a row of a definition, and a deed | do_deed (Put), Put | - | -
+what is edited elsewhere | takes | - | other_front
+its code is named | waits (wdf_model/specs/Others.antt) | - | front_is_zero, other_front | wdf_part/src/other.rt::takes, wdf_part::waits
 """
-MODEL_FILE, PART_FILE = "../crates/wdf_model/specs/Queues.antt", "../crates/wdf_part/src/lib.rt"
+MODEL_FILE, PART_FILE, OTHER_FILE = "../crates/wdf_model/specs/Queues.antt", "../crates/wdf_part/src/lib.rt", "../crates/wdf_part/src/other.rt"
 WANTED = [
-    f"| a queue gives its front | [`takes`]({MODEL_FILE}#L4) | [`wdf_part::takes`]({PART_FILE}#L5) "
-    "| [`law_queue::takes_once`](../crates/law_queue/src/lib.rt#L3) | [`front_is_zero`](../crates/wdf_part/must-fail/front_is_zero.edit) |",
+    f"| a queue gives its front | [`takes`]({MODEL_FILE}#L4) | [`wdf_part::takes`]({PART_FILE}#L5); edited: [`wdf_part::MANY`]({OTHER_FILE}#L1), "
+    f"[`wdf_part::asks`]({OTHER_FILE}#L8), [`wdf_part::also_takes`]({PART_FILE}#L19) | [`law_queue::takes_once`](../crates/law_queue/src/lib.rt#L3) "
+    "| [`front_is_zero`](../crates/wdf_part/must-fail/front_is_zero.edit), [`other_front`](../crates/wdf_part/wrong/other_front.edit) |",
     f"| a queue drops | [`drops`]({MODEL_FILE}#L8) |  | [`law_other::drops_once`](../crates/law_other/src/lib.rt#L1) |  |",
-    f"| its front is kept | [`Queue.front`]({MODEL_FILE}#L3) |  |  | [`front_is_zero`](../crates/wdf_part/must-fail/front_is_zero.edit) |",
+    f"| its front is kept | [`Queue.front`]({MODEL_FILE}#L3) | edited: [`wdf_part::takes`]({PART_FILE}#L5) |  | [`front_is_zero`](../crates/wdf_part/must-fail/front_is_zero.edit) |",
     f"| a queue waits | [`waits`]({MODEL_FILE}#L10) | [`wdf_part::stays`]({PART_FILE}#L25) |  |  |",
     f"| one of two definitions | [`takes`]({MODEL_FILE}#L4), [`waits`]({MODEL_FILE}#L10) | [`wdf_part::takes`]({PART_FILE}#L5), [`wdf_part::stays`]({PART_FILE}#L25) |  |  |",
     f"| a row of a definition, and a deed | [`do_deed`](../crates/wdf_model/specs/Deeds.antt#L4) (Put), [`Put`](../crates/wdf_model/src/deed.rt#L2) "
     f"| [`wdf_part::put_one`]({PART_FILE}#L42) |  |  |",
+    f"| what is edited elsewhere | [`takes`]({MODEL_FILE}#L4) | [`wdf_part::takes`]({PART_FILE}#L5); edited: [`wdf_part::MANY`]({OTHER_FILE}#L1), "
+    f"[`wdf_part::asks`]({OTHER_FILE}#L8), [`wdf_part::also_takes`]({PART_FILE}#L19) |  | [`other_front`](../crates/wdf_part/wrong/other_front.edit) |",
+    f"| its code is named | [`waits`](../crates/wdf_model/specs/Others.antt#L1) | [`wdf_part::takes`]({OTHER_FILE}#L14), [`wdf_part::waits`]({PART_FILE}#L31); "
+    f"edited: [`wdf_part::takes`]({PART_FILE}#L5), [`wdf_part::MANY`]({OTHER_FILE}#L1), [`wdf_part::asks`]({OTHER_FILE}#L8), [`wdf_part::also_takes`]({PART_FILE}#L19) "
+    "|  | [`front_is_zero`](../crates/wdf_part/must-fail/front_is_zero.edit), [`other_front`](../crates/wdf_part/wrong/other_front.edit) |",
 ]
 # Rules that don't name the one wrong body.
-UNNAMED = "Queues\na queue drops | drops | drops_once | -\n"
+UNNAMED = "Queues\na queue drops | drops | drops_once | other_front\n"
 # A rule that can't be written so, and what the script says then.
 REFUSED = [
     ("no such rule | puts", "wdf_model has no puts"),
@@ -117,6 +145,9 @@ REFUSED = [
     ("which of two | waits", "several files of wdf_model have waits: wdf_model/specs/Others.antt, wdf_model/specs/Queues.antt"),
     ("no such law | takes | puts_once", "there is no law puts_once"),
     ("no such wrong body | takes | - | front_is_one", "there is no wrong body front_is_one"),
+    ("no such code | takes | - | - | wdf_part::puts", "there is no function wdf_part::puts"),
+    ("which of two | takes | - | - | wdf_part::takes", "there is no function wdf_part::takes"),
+    ("one part too many | takes | - | - | takes | -", "can't be read: one part too many | takes | - | - | takes | -"),
 ]
 
 
@@ -136,7 +167,9 @@ def page_of(rules_text, then=lambda text: text):
         put(rules.CRATES / "law_queue/src/lib.rt", LAW)
         put(rules.CRATES / "law_other/src/lib.rt", LAWS)
         put(rules.CRATES / "wdf_part/src/lib.rt", PART)
+        put(rules.CRATES / "wdf_part/src/other.rt", FILE)
         put(rules.CRATES / "wdf_part/must-fail/front_is_zero.edit", EDIT)
+        put(rules.CRATES / "wdf_part/wrong/other_front.edit", FILE_EDIT)
         put(rules.RULES, rules_text)
         try:
             return then(rules.page())

@@ -146,6 +146,8 @@ def main():
         wrong.append("the rows aren't in the order of the groups")
     if not any("libraries: `kit_words`, `std`" in line for line in found):
         wrong.append("the kit's libraries aren't named")
+    if page_of({**FILES, "wdf_other/specs/Unneeded.antt": LISTS}).split("\n") != found:
+        wrong.append("a file that isn't needed changes the page")
     for place, old, new, said in REFUSED:
         heard = page_of({**FILES, place: FILES[place].replace(old, new)})
         if said not in heard:

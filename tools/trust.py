@@ -75,8 +75,8 @@ It is said of the words `order`, `seed N`, `run`, `watch`, `idle` and `stack`, w
 clauses say what else the program promises: which text is due with which status, for all words and all input.
 
 Whether the clauses hold needs no trust: the prover checks it. What they *mean* does, and that is in the definitions below.
-They are {lines} lines in {files} of the repository's {all_files} files of definitions, and {type_lines} lines of plain types in {types} files of
-code. The headline alone rests on {few_lines} lines in {few_files} files. All other definitions, all proofs and all code may be
+They are {lines} lines in {files} files of definitions, and {type_lines} lines of plain types in {types} files of code. The headline
+alone rests on {few_lines} lines in {few_files} files. All other definitions of the repository, all proofs and all code may be
 wrong in any way that the prover lets through, and what is promised still holds.
 
 ## What else is trusted
@@ -373,7 +373,6 @@ def page():
         "few_lines": f"{sum(few.get(at, 0) for at in told):,}",
         "types": len(code),
         "type_lines": f"{sum(lines[at] for at in code):,}",
-        "all_files": sum(1 for _ in CRATES.glob("*/specs/**/*.antt")),
         "kits": ", ".join(f"`{kit}`" for kit in sorted(sources.kits)),
     }
     out = [HEAD.format(**numbers)]

@@ -21,8 +21,8 @@ use Rattle.wdf_model.specs.Tables.{in_order_by}
 use Rattle.wdf_model.specs.Plans.{declared_ids, device_of, device_of_agent, device_of_register, first_device_agent}
 use Rattle.wdf_model.specs.agents.Device.{Device, accessed, act_on, among, at_action, at_once, delay_of, device_actions, device_after, due_action, first_done, has_register, is_due_at, own_register, posted_action, set_off, set_off_all, stored, triggers, when_action, with_register, without_tick}
 use Rattle.wdf_model.proofs.Tests.{both_right, in_filter}
-use Rattle.law_machine_lives.proofs.Lists.{Each}
-use Rattle.law_at_rest.proofs.Lines.{all_at, device_lines}
+use Rattle.law_machine_lives.proofs.Lists.{Each, all_at}
+use Rattle.law_at_rest.proofs.Lines.{device_lines}
 
 -- ---- what an event changes of the actions are their ticks
 

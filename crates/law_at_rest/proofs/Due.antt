@@ -17,7 +17,7 @@ use Rattle.wdf_base.specs.declared.event.Post.TheVariants as post
 use Rattle.wdf_base.specs.declared.object.Kind.TheVariants as kind
 use Rattle.wdf_model.specs.declared.entries.DeviceAction.{DeviceAction}
 use Rattle.wdf_model.specs.declared.entries.SentRequest.{SentRequest}
-use Rattle.wdf_model.specs.Tables.{least, lesser}
+use Rattle.wdf_model.specs.Tables.{lesser}
 use Rattle.wdf_model.specs.Plans.{device_of_agent, target_of_agent}
 use Rattle.wdf_model.specs.agents.App as app
 use Rattle.wdf_model.specs.agents.LowerTarget.{LowerTarget, done_post, is_due_sent, later_sent, target_due, target_next}
@@ -37,7 +37,7 @@ use Rattle.wdf_dev.specs.declared.any.AnyAgent.{AnyAgent}
 use Rattle.wdf_dev.specs.declared.any.AnyAgent.TheVariants as agent
 use Rattle.law_machine_base.specs.OverRuns.{PlacesAgree}
 use Rattle.law_machine_base.proofs.LawsOverRuns.{places_agree}
-use Rattle.law_machine_lives.proofs.Lists.{Each}
+use Rattle.law_machine_lives.proofs.Lists.{Each, all_at}
 use Rattle.law_machine_lives.proofs.Lives.{early_there}
 use Rattle.law_stack.proofs.Held.{sent_there}
 use Rattle.law_stack.proofs.Undone.{undone}
@@ -47,10 +47,10 @@ use Rattle.law_at_rest.specs.Rest.{AllPlayed, HasActed, HasAsked, HasFinished, H
 use Rattle.law_at_rest.proofs.Arrived.{room_left}
 use Rattle.law_at_rest.proofs.Devices.{IsActOf, IsSuch}
 use Rattle.law_at_rest.proofs.Itself.{HasLines, IsItself, IsOfTarget, itself}
-use Rattle.law_at_rest.proofs.Lines.{all_at}
 use Rattle.law_at_rest.proofs.Proper.{IsFine, all_fine, each_there}
 use Rattle.law_at_rest.proofs.Rest.{nothing_comes}
 use Rattle.law_at_rest.proofs.Targets.{waits_undone}
+use Rattle.law_stuck_causes.proofs.Needs.{no_least}
 
 -- ---- a line that isn't posted is due, where none is later
 
@@ -77,10 +77,6 @@ least_by m n ns false one two e = two e
 some_least : (m : ℕ) (ns : List ℕ) → fold lesser (Some m) ns ≡ None → ⊥
 some_least m [] h = let z : ⊥ = cc in z
 some_least m (n ∷ ns) h = least_by m n ns (nat_le m n) (some_least m ns) (some_least n ns) h
-
-none_least : (ns : List ℕ) → least ns ≡ None → ns ≡ []
-none_least [] h = refl
-none_least (n ∷ ns) h = absurd (some_least n ns h)
 
 none_kept : {X Y : Type 0} (f : X → Option Y) (xs : List X) (k : ℕ) (x : X) → filter_map f xs ≡ [] → slice_get xs k ≡ Some x → f x ≡ None
 none_kept f [] k x h at = absurd (let z : ⊥ = cc in z)
@@ -215,7 +211,7 @@ module _ (plan : Plan) (run : List Event) (resolved : IsResolved plan) (is_run :
   device_over k d at h j l here =
       let none = none_due k d at h (due_action d) refl in
       let later : device_next d ≡ None = rest.later k (agent.Device d) at in
-      let empty = none_least (filter_map (λ (x : DeviceAction). later_tick d.clock x.tick) d.actions) later in
+      let empty = no_least (filter_map (λ (x : DeviceAction). later_tick d.clock x.tick) d.actions) later in
       no_tick d.clock l.tick (not_found (λ (x : DeviceAction). is_due_at d.clock x.tick) d.actions j l none here) (none_kept (λ (x : DeviceAction). later_tick d.clock x.tick) d.actions j l empty here)
 
   -- ---- targets
@@ -244,7 +240,7 @@ module _ (plan : Plan) (run : List Event) (resolved : IsResolved plan) (is_run :
       by [] e = e
       by (s ∷ xs) e =
           let later : target_next t ≡ None = rest.later k (agent.LowerTarget t) at in
-          let empty : filter_map (later_sent t.clock) t.sent ≡ [] = none_least (filter_map (later_sent t.clock) t.sent) later in
+          let empty : filter_map (later_sent t.clock) t.sent ≡ [] = no_least (filter_map (later_sent t.clock) t.sent) later in
           let first : slice_get t.sent 0 ≡ Some s = ap (λ ys. slice_get ys 0) e in
           let due : is_due_sent t.clock s ≡ true = due_or_later_sent t.clock s (is_due_sent t.clock s) refl (none_kept (later_sent t.clock) t.sent 0 s empty first) in
           let found : find (is_due_sent t.clock) t.sent ≡ Some s = ap (find (is_due_sent t.clock)) e ∙ rw due refl in

@@ -14,13 +14,9 @@ use Rattle.wdf_base.specs.declared.script.AgentInfo.{AgentInfo}
 use Rattle.wdf_model.specs.Plans.{as_device, device_of, device_of_agent, devices_of, first_device_agent, is_app}
 use Rattle.wdf_model.proofs.Runs.{slice_get-take}
 use Rattle.wdf_model.proofs.Tests.{both_left, both_right}
+use Rattle.law_machine_lives.proofs.Lists.{all_at}
 
 -- ---- lists
-
-pub all_at : {T : Type 0} (p : T → Bool) (xs : List T) (k : ℕ) (x : T) → list_all p xs ≡ true → slice_get xs k ≡ Some x → p x ≡ true
-all_at p [] k x h at = absurd (let z : ⊥ = cc in z)
-all_at p (y ∷ ys) zero x h at = subst (λ z. p z ≡ true) (same_Some y x at) (both_left (p y) (list_all p ys) h)
-all_at p (y ∷ ys) (suc k) x h at = all_at p ys k x (both_right (p y) (list_all p ys) h) at
 
 dropped_at : {T : Type 0} (n : ℕ) (xs : List T) (j : ℕ) → slice_get (drop n xs) j ≡ slice_get xs (n + j)
 dropped_at zero xs j = let same : 0 + j ≡ j = omega arith in rw same refl

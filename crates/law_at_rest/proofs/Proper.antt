@@ -3,7 +3,7 @@ use Rattle.std.proofs.Common.{if◌then◌else◌, ◌≡◌, ◌≢◌, inl, in
 use Rattle.std.specs.Prelude.{⊤}
 use Rattle.std.specs.List.{list_all}
 use Rattle.wdf_base.specs.Meaning.{Meaning}
-use Rattle.wdf_base.specs.Lives.{is_cleaned, is_gone, is_past_cleanup}
+use Rattle.wdf_base.specs.Lives.{is_past_cleanup}
 use Rattle.wdf_base.specs.Places.{is_done, is_sent, is_sent_to}
 use Rattle.wdf_base.specs.Resolved.{IsResolved}
 use Rattle.wdf_base.specs.Same.{same_kind, same_value}
@@ -21,8 +21,6 @@ use Rattle.wdf_base.specs.declared.ids.Cpu.{Cpu}
 use Rattle.wdf_base.specs.declared.ids.Handle.{Handle}
 use Rattle.wdf_base.specs.declared.object.Kind.{Kind}
 use Rattle.wdf_base.specs.declared.object.Kind.TheVariants as kind
-use Rattle.wdf_base.specs.declared.object.Life.{Life}
-use Rattle.wdf_base.specs.declared.object.Life.TheVariants as life
 use Rattle.wdf_base.specs.declared.object.Place.{Place}
 use Rattle.wdf_base.specs.declared.object.Place.TheVariants as place
 use Rattle.wdf_base.specs.declared.plan.Plan.{Plan}
@@ -41,7 +39,7 @@ use Rattle.wdf_model.specs.State.{State, nothing_at, object_in}
 use Rattle.wdf_model.specs.rules.Deeds.{do_deed, do_deeds}
 use Rattle.wdf_model.specs.rules.Faults.{View, arg_is, is_request_kind, is_stale, is_wrong_kind}
 use Rattle.wdf_model.specs.rules.Ready.{IsRunOf, ready, state_after}
-use Rattle.wdf_model.specs.rules.Starts.{clean_ready, destroy_ready, is_finished, is_unused}
+use Rattle.wdf_model.specs.rules.Starts.{clean_ready, is_finished, is_unused}
 use Rattle.wdf_model.specs.rules.Steps.{after, deeds, may, view_of}
 use Rattle.wdf_model.proofs.Counts.{count_cons}
 use Rattle.wdf_model.proofs.Runs.{along_run}
@@ -58,7 +56,7 @@ use Rattle.law_machine_base.proofs.LawsOverRuns.{places_agree}
 use Rattle.law_machine_base.proofs.OwnEvents.{IsDid, did_tells}
 use Rattle.law_machine_deeds.specs.MayDo.{is_cleanup, may_do}
 use Rattle.law_machine_deeds.proofs.Walk.{all_pass, event_may}
-use Rattle.law_machine_lives.proofs.LevelEvents.{stale_first}
+use Rattle.law_machine_lives.proofs.LevelEvents.{early_life, stale_first}
 use Rattle.law_machine_lives.proofs.Lists.{Each, each_behind, each_kept}
 use Rattle.law_machine_lives.proofs.Lives.{early_there}
 use Rattle.law_machine_states.proofs.Early.{early_still}
@@ -71,6 +69,7 @@ use Rattle.law_stack.proofs.Undone.{undone}
 use Rattle.law_stuck_causes.proofs.Endings.{at_the_end}
 use Rattle.law_at_rest.proofs.Agents.{agents_after}
 use Rattle.law_at_rest.proofs.Targets.{all_fresh, are_there, times, was_target}
+use Rattle.law_machine_lives.proofs.QuietMoves.{each_two, ended_apart}
 
 -- ---- an object that isn't past its cleanup
 
@@ -87,21 +86,10 @@ cleaning : (e : Event) → is_cleanup e ≡ false → (d : Deed) → may_do e d 
 cleaning e off (CleanUp o) h = absurd (let z : ⊥ = cc in z)
 cleaning e off d h = refl
 
-cleaned_late : (l : Life) → is_cleaned l ≡ true → is_past_cleanup l ≡ true
-cleaned_late life.Cleaned h = refl
-cleaned_late _ h = absurd (let z : ⊥ = cc in z)
-
-ends_other : {A : Type 0} (S : State A) (o x : ℕ) → destroy_ready S o ≡ true → is_past_cleanup (life_of S.tree x) ≡ false → x ≢ o
-ends_other S o x ready_ early same =
-    let cleaned : is_cleaned (life_of S.tree o) ≡ true = search both_left in
-    let late = cleaned_late (life_of S.tree o) cleaned in
-    let off : is_past_cleanup (life_of S.tree o) ≡ false = subst (λ y. is_past_cleanup (life_of S.tree y) ≡ false) same early in
-    let z : ⊥ = cc in z
-
 module _ {A : Type 0} (plan : Plan) (x : ℕ) where
   early_one : (d : Deed) (S : State A) → fits plan d S ≡ true → cleans_none d ≡ true → is_past_cleanup (life_of S.tree x) ≡ false → is_past_cleanup (life_of (do_deed plan d S).tree x) ≡ false
   early_one (CleanUp o) S fit no_cleanup early = absurd (let z : ⊥ = cc in z)
-  early_one (EndLife o) S fit no_cleanup early = early_still plan (EndLife o) S x (ends_other S o.0 x fit early) early
+  early_one (EndLife o) S fit no_cleanup early = early_still plan (EndLife o) S x (ended_apart S o.0 x fit early) early
   early_one d S fit no_cleanup early = early_still plan d S x (λ e. e) early
 
   early_all : (ds : List Deed) (S : State A) → all_fit plan ds S ≡ true → list_all cleans_none ds ≡ true → is_past_cleanup (life_of S.tree x) ≡ false → is_past_cleanup (life_of (do_deeds plan ds S).tree x) ≡ false
@@ -135,12 +123,6 @@ unfinished_kind _ h = absurd (let z : ⊥ = cc in z)
 unfinished : (t : ℕ) (k : Kind) (p : Place) → is_request_kind k ≡ true → is_sent_to t p ≡ true → ((not (same_kind k kind.Request) || is_done p) && (not (same_kind k kind.Made) || not (is_sent p))) ≡ false
 unfinished t k (place.Sent u) h sent = unfinished_kind k h
 unfinished t k _ h sent = absurd (let z : ⊥ = cc in z)
-
-early_of : (l : Life) → (is_gone l || (is_cleaned l && true)) ≡ false → is_past_cleanup l ≡ false
-early_of life.Live h = refl
-early_of life.Asked h = refl
-early_of life.Cleaned h = absurd (let z : ⊥ = cc in z)
-early_of life.Gone h = absurd (let z : ⊥ = cc in z)
 
 module _ {A : Type 0} (plan : Plan) (m : Meaning A) (S : State A) where
   -- no request that is at a target is cleaned up
@@ -176,7 +158,7 @@ module _ {A : Type 0} (plan : Plan) (m : Meaning A) (S : State A) where
       let kind_ : is_wrong_kind view sort.AnyRequest (Val (Obj h)) ≡ false = subst (λ a. is_wrong_kind view sort.AnyRequest a ≡ false) names wrong in
       record {
         named = subst (InArg (IsNamed plan S.tree)) names named.0;
-        early = early_of (life_of S.tree h.id.0) gone_;
+        early = early_life (life_of S.tree h.id.0) gone_;
         request = not_false (is_request_kind (kind_of S.tree h.id.0)) kind_;
       }
 
@@ -250,10 +232,6 @@ each_counted f (s ∷ xs) h = (
   each_counted f xs (λ r. let here = count_cons (λ (x : SentRequest). x.request.id.0 == r) s xs in let most = h r in omega (arith, here, most)),
 )
 
-each_both : {T : Type 0} (P Q R : T → Type 0) → ((x : T) → P x → Q x → R x) → (xs : List T) → Each P xs → Each Q xs → Each R xs
-each_both P Q R h [] p q = tt
-each_both P Q R h (x ∷ xs) p q = (h x p.0 q.0, each_both P Q R h xs p.1 q.1)
-
 -- ---- along a run
 
 -- each request that a target has is fine
@@ -298,7 +276,7 @@ module _ (plan : Plan) (resolved : IsResolved plan) where
     comes_fine e comes here =
         let U = after plan agent_meaning S e in
         still S e (λ k t at. all_after (IsFine plan U) t e
-        (each_both (On (IsFine plan S)) (λ (s : SentRequest). 1 ≤ undone S.targets t.target s.request.id.0) (On (IsFine plan U))
+        (each_two (On (IsFine plan S)) (λ (s : SentRequest). 1 ≤ undone S.targets t.target s.request.id.0) (On (IsFine plan U))
         (λ s fine there. fine_after plan agent_meaning S e s.request comes (spared plan agent_meaning S t.target e s.request comes fine (sent_there S t.target places s.request.id.0 there)) fine)
         t.sent (here k t at) (each_there k t at))
         (λ h is. new_fine e h comes is))
@@ -307,7 +285,7 @@ module _ (plan : Plan) (resolved : IsResolved plan) where
     ticks_fine time here =
         let U = after plan agent_meaning S (event.Tick time) in
         still S (event.Tick time) (λ k t at. all_after (IsFine plan U) t (event.Tick time)
-        (each_both (On (IsFine plan S)) (On (IsFine plan S)) (On (IsFine plan U)) (λ s fine same. fine_later plan agent_meaning S time s.request fine) t.sent (here k t at) (here k t at))
+        (each_two (On (IsFine plan S)) (On (IsFine plan S)) (On (IsFine plan U)) (λ s fine same. fine_later plan agent_meaning S time s.request fine) t.sent (here k t at) (here k t at))
         (λ h is. absurd is))
 
   goes_on : (run : List Event) (e : Event) (place : ℕ) → IsRunOf plan agent_meaning run → At run → slice_get (ready plan agent_meaning run) place ≡ Some e → At (run ++ e ∷ [])

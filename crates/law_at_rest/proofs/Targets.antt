@@ -23,8 +23,6 @@ use Rattle.wdf_base.specs.declared.rank.Rank.TheVariants as rank
 use Rattle.wdf_base.specs.declared.value.Status.{Status}
 use Rattle.wdf_base.specs.declared.value.Value.{Value}
 use Rattle.wdf_base.specs.declared.value.Value.TheVariants.{Num, Obj, Stat}
-use Rattle.wdf_model.specs.declared.deed.Deed.{Deed}
-use Rattle.wdf_model.specs.declared.deed.Deed.TheVariants.{ComeBack, FinishSending}
 use Rattle.wdf_model.specs.declared.entries.Sending.{Sending}
 use Rattle.wdf_model.specs.declared.entries.SentRequest.{SentRequest}
 use Rattle.wdf_model.specs.Plans.{device_of_agent, is_app, target_of_agent}
@@ -53,7 +51,7 @@ use Rattle.law_machine_base.proofs.LawsOverRuns.{places_agree}
 use Rattle.law_machine_deeds.specs.MayDo.{is_done, may_do, posts, starts}
 use Rattle.law_machine_deeds.proofs.Walk.{all_pass, event_may}
 use Rattle.law_stack.specs.Words.{Passing, sent_now, with_send}
-use Rattle.law_stack.proofs.Held.{IsThere, at_one_target, sends_of, sent_there, there_next}
+use Rattle.law_stack.proofs.Held.{IsThere, at_one_target, calm_of, sends_of, sent_there, there_next}
 use Rattle.law_stack.proofs.Targets.{one_agent}
 use Rattle.law_stack.proofs.Undone.{all_calm, done_others, is_calm, undone, waits_at}
 use Rattle.law_stuck_causes.proofs.Endings.{at_the_end}
@@ -190,11 +188,6 @@ send_as t c v true e r = rw e (with_arg t c.a r)
 send_as t c v false e r = let same = as_many r t.sent in rw e (omega (arith, same))
 
 -- ---- one event more
-
-calm_of : (e : Event) → posts is_done e ≡ false → starts rank.Completion e ≡ false → (d : Deed) → may_do e d ≡ true → is_calm d ≡ true
-calm_of e no_done no_start (FinishSending r s) h = absurd (let z : ⊥ = cc in z)
-calm_of e no_done no_start (ComeBack r) h = absurd (let z : ⊥ = cc in z)
-calm_of e no_done no_start d h = refl
 
 finishes : {A : Type 0} (plan : Plan) (S : State A) (o : Option ℕ) (q : Handle) → may_finish plan S o q ≡ true → (u : ℕ) × (o ≡ Some u) × (is_sent_to u (place_of S.requests q.id.0) ≡ true)
 finishes plan S None q h = absurd (let z : ⊥ = cc in z)

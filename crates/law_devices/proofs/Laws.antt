@@ -35,10 +35,11 @@ use Rattle.law_devices.specs.Agents.{HasDevices}
 use Rattle.law_devices.specs.Shown.{Shown, Register, Line, value_told}
 use Rattle.law_devices.proofs.Acts.{held}
 use Rattle.law_devices.proofs.Numbers.{is_agent}
-use Rattle.law_devices.proofs.Reading.{all_at, is_read}
+use Rattle.law_devices.proofs.Reading.{is_read}
 use Rattle.law_devices.proofs.Routines.{is_interrupt}
 use Rattle.law_devices.proofs.Steps.{shower}
 use Rattle.law_devices.proofs.Told.{all_know}
+use Rattle.law_machine_lives.proofs.Lists.{all_at}
 
 is_device : (o : Option Declared) → same_option same_kind (option_and_then declared_kind o) (Some kind.Device) ≡ true → is_some (as_device o) ≡ true
 is_device None h = absurd (let z : ⊥ = cc in z)

@@ -1,5 +1,5 @@
 -- A read is answered with what the device of its register shows, and the register is one of the plan.
-use Rattle.std.proofs.Common.{if◌then◌else◌, ◌≡◌, ℕ, zero, suc, nat_le, Bool, true, false, List, [], ◌∷◌, length, Option, Some, None, slice_get, refl, sym, ap, ◌∙◌, subst}
+use Rattle.std.proofs.Common.{if◌then◌else◌, ◌≡◌, ℕ, nat_le, Bool, true, false, length, Option, Some, None, slice_get, refl, sym, ap, ◌∙◌, subst}
 use Rattle.std.specs.List.{list_all}
 use Rattle.wdf_base.specs.Meaning.{Meaning}
 use Rattle.wdf_base.specs.Plan.{script_statements}
@@ -31,8 +31,9 @@ use Rattle.wdf_model.specs.rules.Faults.{fault_of}
 use Rattle.wdf_model.specs.rules.Script.{REPEAT_LIMIT, SPEND_LIMIT, act_intent, if_intent, intent_at, intent_of, let_intent, log_intent, put_intent, repeat_intent, return_intent, spend_intent, statement_at, value_of}
 use Rattle.wdf_model.specs.rules.Starts.{shown}
 use Rattle.wdf_model.specs.rules.Steps.{event_of_frame, event_of_top, fault_event, intent_event, may, own_event, spends, view_of}
-use Rattle.wdf_model.proofs.Tests.{both_left, both_right}
-use Rattle.law_machine_places.proofs.Rows.{register_same}
+use Rattle.wdf_model.proofs.Tests.{both_right}
+use Rattle.law_machine_counts.proofs.Sames.{register_same}
+use Rattle.law_machine_lives.proofs.Lists.{all_at}
 
 -- ---- statements that read
 
@@ -87,12 +88,6 @@ act_reads plan f n next k (act.Again depth body) fits h = absurd (let z : ⊥ = 
 act_reads plan f n next k (act.Spend e) fits h = absurd (not_get _ k (no_spend (value_of plan f e)) h)
 act_reads plan f n next k (act.Log e) fits h = absurd (not_get _ k (no_log (value_of plan f e)) h)
 act_reads plan f n next k (act.Return e) fits h = absurd (not_get _ k (no_return (value_of plan f e)) h)
-
--- each item passes a test that all pass
-pub all_at : {T : Type 0} (p : T → Bool) (xs : List T) (k : ℕ) (x : T) → list_all p xs ≡ true → slice_get xs k ≡ Some x → p x ≡ true
-all_at p [] k x h at = absurd (let z : ⊥ = cc in z)
-all_at p (y ∷ ys) zero x h at = let same : y ≡ x = cc in subst (λ z. p z ≡ true) same (both_left (p y) (list_all p ys) h)
-all_at p (y ∷ ys) (suc k) x h at = all_at p ys k x (both_right (p y) (list_all p ys) h) at
 
 module _ (plan : Plan) (resolved : IsResolved plan) where
   in_script : (script at k : ℕ) (f : Frame) (o : Option Script) (s : Statement) → slice_get plan.scripts script ≡ o → slice_get (script_statements o) at ≡ Some s → act_intent plan f s.next s.act ≡ intent.Get k → is_register plan k ≡ true

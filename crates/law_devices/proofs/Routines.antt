@@ -1,22 +1,17 @@
 -- A service routine starts on an interrupt of the plan alone: a resolved plan declares one for nothing else.
-use Rattle.std.proofs.Common.{◌≡◌, ℕ, true, false, List, [], ◌∷◌, position, Option, Some, None, is_some, option_map, slice_get, refl, subst}
+use Rattle.std.proofs.Common.{◌≡◌, ℕ, true, List, [], ◌∷◌, position, Option, Some, None, is_some, slice_get, refl, subst}
 use Rattle.std.specs.List.{list_all}
 use Rattle.std.proofs.lemmas.List.Quantifiers.{position-Some}
 use Rattle.wdf_base.specs.Callbacks.{row_of}
-use Rattle.wdf_base.specs.Kinds.{class_kind}
 use Rattle.wdf_base.specs.Plan.{is_script_of, script_of}
 use Rattle.wdf_base.specs.Resolved.{IsResolved, owner_fits, script_fits}
-use Rattle.wdf_base.specs.Same.{same_callback, same_kind, same_option}
+use Rattle.wdf_base.specs.Same.{same_callback}
 use Rattle.wdf_base.specs.SamePlan.{same_declared}
 use Rattle.wdf_base.specs.declared.plan.Plan.{Plan}
 use Rattle.wdf_base.specs.declared.object.Kind.{Kind}
 use Rattle.wdf_base.specs.declared.object.Kind.TheVariants as kind
 use Rattle.wdf_base.specs.declared.call.Callback.{Callback}
 use Rattle.wdf_base.specs.declared.call.Callback.TheVariants as callback
-use Rattle.wdf_base.specs.declared.declared.ClassInfo.{ClassInfo}
-use Rattle.wdf_base.specs.declared.declared.ClassInfo.TheVariants as class
-use Rattle.wdf_base.specs.declared.declared.PlainKind.TheVariants as plain
-use Rattle.wdf_base.specs.declared.declared.DeferredKind.TheVariants as deferred
 use Rattle.wdf_base.specs.declared.declared.Declared.{Declared}
 use Rattle.wdf_base.specs.declared.declared.Declared.TheVariants as declared
 use Rattle.wdf_base.specs.declared.rank.Owner.TheVariants as owner
@@ -28,16 +23,7 @@ use Rattle.wdf_model.specs.declared.entries.Node.{Node}
 use Rattle.wdf_model.specs.parts.Tree.{kind_of, made_as, node_of}
 use Rattle.wdf_model.proofs.Sames.{callback_decides}
 use Rattle.wdf_model.proofs.Tests.{both_left, both_right}
-use Rattle.law_machine_lives.proofs.LevelCalls.{all_fit_at}
-
-no_class : (c : ClassInfo) → same_kind (class_kind c) kind.Interrupt ≡ false
-no_class (class.Plain name plain.Object) = refl
-no_class (class.Deferred name deferred.Dpc parent serialize period) = refl
-no_class _ = refl
-
-class_unlike : (o : Option ClassInfo) → same_option same_kind (option_map class_kind o) (Some kind.Interrupt) ≡ true → ⊥
-class_unlike None h = let z : ⊥ = cc in z
-class_unlike (Some c) h = let off = no_class c in let z : ⊥ = cc in z
+use Rattle.law_machine_lives.proofs.LevelCalls.{all_fit_at, class_unlike}
 
 owns : (plan : Plan) (x y : Declared) → same_declared x y ≡ true → owner_fits plan (owner.Of kind.Interrupt) x ≡ true → is_some (as_interrupt (Some y)) ≡ true
 owns plan (declared.Interrupt a) (declared.Interrupt b) h k = refl

@@ -29,6 +29,8 @@ use Rattle.wdf_model.proofs.Tests.{both_left, both_right, itself}
 use Rattle.law_idle.specs.Idling.{time_after, time_step}
 use Rattle.law_devices.specs.Shown.{Shown, Register, Line, acted, first_value, given, set_at_once, stored, value_by, value_told}
 use Rattle.law_devices.proofs.Acts.{Has, act_held, act_kept, has_still, held, line_of, once_held, once_kept, stored_held, stored_kept}
+use Rattle.law_machine_lives.proofs.Lists.{some_number}
+use Rattle.law_idle.proofs.Since.{time_more}
 
 -- the device that shows it
 abbrev pub shower : Plan → Shown → Option ℕ
@@ -55,10 +57,6 @@ told_more : (plan : Plan) (x : Shown) (es : List Event) (e : Event) → value_to
 unfolding value_told
 told_more plan x es e = fold-append (value_by plan x) (first_value plan x) es (e ∷ [])
 
-clock_more : (es : List Event) (e : Event) → time_after (es ++ e ∷ []) ≡ time_step (time_after es) e
-unfolding time_after
-clock_more es e = fold-append time_step 0 es (e ∷ [])
-
 -- ---- lists of actions
 
 gathered_same : {T U : Type 0} (f : T → Option U) (g : T → T) → ((x : T) → f (g x) ≡ f x) → (xs : List T) → filter_map f (map g xs) ≡ filter_map f xs
@@ -81,10 +79,6 @@ off_lines : (a : Access) (r now : ℕ) (ls : List DeviceAction) → filter_map l
 off_lines a r now ls = gathered_same line_of (set_off a r now) (λ l. either_line (triggers a r l.trigger && nat_lt 0 (delay_of l.trigger)) _ l) ls
 
 -- ---- what an action is about
-
-same_is : (o : Option ℕ) (d : ℕ) → same_option ◌==◌ o (Some d) ≡ true → o ≡ Some d
-same_is None d h = absurd (let z : ⊥ = cc in z)
-same_is (Some x) d h = ap Some (eqb-true x d h)
 
 pub same_if : (o : Option ℕ) (d : ℕ) → o ≡ Some d → same_option ◌==◌ o (Some d) ≡ true
 same_if o d h = rw h (itself d)
@@ -181,7 +175,7 @@ module _ (plan : Plan) (is_resolved : IsResolved plan) (d k : ℕ) (es : List Ev
 
   -- an event that tells nothing of it
   stays : (e : Event) → time_step (time_after es) e ≡ time_after es → ((x : Shown) → shower plan x ≡ Some d → value_by plan x (value_told plan x es) e ≡ value_told plan x es) → Knows plan d k (es ++ e ∷ []) h
-  stays e still calm = record { number = knows.number; clock = knows.clock ∙ sym still ∙ sym (clock_more es e); owns = knows.owns; lines = knows.lines; values = λ x is. knows.values x is ∙ sym (calm x is) ∙ sym (told_more plan x es e) }
+  stays e still calm = record { number = knows.number; clock = knows.clock ∙ sym still ∙ sym (time_more es e); owns = knows.owns; lines = knows.lines; values = λ x is. knows.values x is ∙ sym (calm x is) ∙ sym (told_more plan x es e) }
 
   accessed_knows : (cpu : Cpu) (a : Access) (r v : ℕ) (own : Bool) → has_register (own_register h r) ≡ own → Knows plan d k (es ++ event.Register cpu a r v ∷ []) (if own then accessed a r (device.stored a r v h) else h)
   accessed_knows cpu a r v true own =
@@ -189,11 +183,11 @@ module _ (plan : Plan) (is_resolved : IsResolved plan) (d k : ℕ) (es : List Ev
       let s = stored_kept a r v h in
       let off = set_off_all a r g in
       let o = once_kept a r g.actions off in
-      let its : resolved.device_of_register plan r ≡ Some d = same_is (resolved.device_of_register plan r) d (sym (knows.owns r) ∙ own) in
+      let its : resolved.device_of_register plan r ≡ Some d = some_number (resolved.device_of_register plan r) d (sym (knows.owns r) ∙ own) in
       let same : filter_map line_of g.actions ≡ filter (is_on plan d) plan.whens = ap (filter_map line_of) s.actions ∙ knows.lines in
       record {
         number = o.number ∙ s.number ∙ knows.number;
-        clock = o.clock ∙ s.clock ∙ knows.clock ∙ sym (clock_more es (event.Register cpu a r v));
+        clock = o.clock ∙ s.clock ∙ knows.clock ∙ sym (time_more es (event.Register cpu a r v));
         owns = λ q. o.owns q ∙ s.owns q ∙ knows.owns q;
         lines = ap (filter_map line_of) o.actions ∙ off_lines a r g.clock g.actions ∙ same;
         values = λ x is.
@@ -219,7 +213,7 @@ module _ (plan : Plan) (is_resolved : IsResolved plan) (d k : ℕ) (es : List Ev
       let kept = act_kept g l.action in
       record {
         number = kept.number ∙ knows.number;
-        clock = kept.clock ∙ knows.clock ∙ sym (clock_more es (event.Posted agent (post.Act l.action) answer));
+        clock = kept.clock ∙ knows.clock ∙ sym (time_more es (event.Posted agent (post.Act l.action) answer));
         owns = λ q. kept.owns q ∙ knows.owns q;
         lines = ap (filter_map line_of) kept.actions ∙ done_lines h.clock h.actions ∙ knows.lines;
         values = λ x is. act_held g x l.action (has_own_done x is) ∙ ap (λ n. acted x n l.action) (knows.values x is) ∙ sym (told_more plan x es (event.Posted agent (post.Act l.action) answer));
@@ -251,5 +245,5 @@ module _ (plan : Plan) (is_resolved : IsResolved plan) (d k : ℕ) (es : List Ev
   pub knows_more : (e : Event) → IsPostIf e → Knows plan d k (es ++ e ∷ []) (device_after h e)
   knows_more (event.Register cpu a r v) is = accessed_knows cpu a r v (has_register (own_register h r)) refl
   knows_more (event.Posted agent p answer) is = posted_knows agent p answer is (agent == h.agent) refl
-  knows_more (event.Tick time) is = record { number = knows.number; clock = sym (clock_more es (event.Tick time)); owns = knows.owns; lines = knows.lines; values = λ x s. knows.values x s ∙ sym (told_more plan x es (event.Tick time)) }
+  knows_more (event.Tick time) is = record { number = knows.number; clock = sym (time_more es (event.Tick time)); owns = knows.owns; lines = knows.lines; values = λ x s. knows.values x s ∙ sym (told_more plan x es (event.Tick time)) }
   knows_more e is = stays e refl (λ x s. refl)

@@ -19,8 +19,7 @@ use Rattle.wdf_model.specs.agents.Device.{Device, action_post, device_after, dev
 use Rattle.wdf_model.specs.rules.Deeds.{told}
 use Rattle.wdf_model.specs.rules.Posts.{due_of, post_answer, post_fits}
 use Rattle.wdf_model.specs.rules.Ready.{IsRunOf, ready, state_after}
-use Rattle.wdf_model.specs.rules.Steps.{after, deeds, may}
-use Rattle.wdf_model.proofs.Counting.{counted_first, counting_commutes}
+use Rattle.wdf_model.specs.rules.Steps.{after, may}
 use Rattle.wdf_model.proofs.Runs.{along_run}
 use Rattle.wdf_model.proofs.Tests.{both_left, both_right}
 use Rattle.law_machine_base.specs.FactsOfEvents.{IsTick}
@@ -30,11 +29,7 @@ use Rattle.law_devices.specs.Agents.{HasDevices}
 use Rattle.law_devices.proofs.Numbers.{agent_there, own_number}
 use Rattle.law_devices.proofs.Opening.{knows_first}
 use Rattle.law_devices.proofs.Steps.{IsPostIf, Knows, knows_more}
-
--- an event is told to the agents, and changes none of them otherwise
-agents_told : {A : Type 0} (plan : Plan) (m : Meaning A) (S : State A) (e : Event) → (after plan m S e).agents ≡ told m e S.agents
-agents_told {A} plan m S e =
-    ap (λ (T : State A). T.agents) (sym (counted_first plan m (deeds plan S e) e S)) ∙ ap (λ (T : State A). T.agents) (counting_commutes plan m (deeds plan S e) e S)
+use Rattle.law_idle.proofs.Policy.{agents_told}
 
 range_there : (a n k : ℕ) → k < n → slice_get (range_with_len a n) k ≡ Some (a + k)
 range_there a zero k h = absurd (omega (arith, h))

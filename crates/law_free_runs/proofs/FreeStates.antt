@@ -1,43 +1,29 @@
 -- What is known of each state of a free run: of places, frames and steps, of what is declared, and of locks and who holds them.
-use Rattle.std.proofs.Common.{if◌then◌else◌, ◌≡◌, ℕ, zero, suc, ◌+◌, ◌==◌, ◌≤◌, Bool, true, false, List, [], ◌∷◌, Option, Some, None, find, is_some, length, map, option_map, refl, sym, ap, subst, ◌∙◌, arith}
+use Rattle.std.proofs.Common.{◌≡◌, ℕ, ◌+◌, ◌≤◌, true, List, [], Some, length, refl, sym, ap, subst, ◌∙◌, arith}
 use Rattle.wdf_base.specs.Meaning.{Meaning}
 use Rattle.wdf_base.specs.declared.plan.Plan.{Plan}
-use Rattle.wdf_base.specs.declared.declared.DeviceInfo.{DeviceInfo}
 use Rattle.wdf_base.specs.declared.event.Event.{Event}
 use Rattle.wdf_base.specs.declared.event.Event.TheVariants as event
-use Rattle.wdf_base.specs.declared.object.LockRef.{LockRef}
-use Rattle.wdf_base.specs.Same.{same_lock}
-use Rattle.wdf_model.specs.declared.entries.Held.{Held}
-use Rattle.wdf_model.specs.Tables.{entry, flag}
-use Rattle.wdf_model.specs.Plans.{declared_ids, device_of}
-use Rattle.wdf_model.specs.parts.Cpus.{frame_of, opening_cpus}
-use Rattle.wdf_model.specs.parts.Locks.{hold_of, holder}
 use Rattle.wdf_model.specs.parts.Tree.{Tree}
-use Rattle.wdf_model.specs.parts.Pnp.{no_sequence, opening_sequence}
 use Rattle.wdf_model.specs.State.{State, opening}
 use Rattle.wdf_model.specs.declared.deed.Deed.{Deed}
-use Rattle.wdf_model.specs.rules.Deeds.{counted, do_deed, do_deeds}
+use Rattle.wdf_model.specs.rules.Deeds.{counted, do_deeds}
 use Rattle.wdf_model.specs.rules.Ready.{ready}
 use Rattle.wdf_model.specs.rules.Steps.{after, deeds, may}
-use Rattle.law_machine_base.specs.Agreement.{is_step_frame}
-use Rattle.law_machine_base.specs.Fits.{all_fit, fits}
+use Rattle.law_machine_base.specs.Fits.{all_fit}
 use Rattle.law_machine_base.specs.OverRuns.{DeclaredAgree, is_declared_kind}
-use Rattle.wdf_model.proofs.FrameCounts.{on}
 use Rattle.wdf_model.proofs.Runs.{run_opens}
-use Rattle.wdf_model.proofs.Tests.{both_left, both_right}
 use Rattle.law_machine_base.proofs.FitsOfEvents.{event_fits}
 use Rattle.law_machine_counts.proofs.DeclaredOverRuns.{declared_agree_at_each, deeds_kinds}
 use Rattle.law_machine_counts.proofs.Framed.{Framed}
 use Rattle.law_machine_counts.proofs.StepStates.{StepsIn}
-use Rattle.law_machine_counts.proofs.StepsOverRuns.{none_yet, opening_hollow}
+use Rattle.law_machine_counts.proofs.StepsOverRuns.{opening_steps}
 use Rattle.law_machine_counts.proofs.StepTable.{event_keeps_steps, tick_keeps_steps}
 use Rattle.law_machine_lives.specs.Agreements.{FramesThere, LocksAgree}
-use Rattle.law_machine_lives.proofs.Framing.{Framing, IsHeld, framing_at_each, framing_by}
+use Rattle.law_machine_lives.proofs.Framing.{Framing, deeds_frame, framing_at_each, told as told_framing}
 use Rattle.law_machine_lives.proofs.Keeping as keeping
 use Rattle.law_machine_lives.proofs.LocksOnce.{Once}
 use Rattle.law_machine_lives.proofs.LocksOnce as locks_once
-use Rattle.law_machine_lives.proofs.Lists.{Each}
-use Rattle.law_machine_lives.proofs.Sound.{AllSound}
 use Rattle.law_machine_lives.proofs.SoundRuns.{KnownAll, all_sound}
 use Rattle.law_trace_families.proofs.Families.{Family, declared_within, family_at_each}
 use Rattle.law_trace_families.proofs.Stays.{Stays, WasAt, event_stays}
@@ -46,6 +32,7 @@ use Rattle.wdf_laws.specs.Frames.{Frames, frames_after, frames_step}
 use Rattle.law_free_runs.specs.FreeRuns.{IsFreeRun}
 use Rattle.law_free_runs.proofs.FreeRuns.{free_place}
 use Rattle.law_free_runs.proofs.Places.{Places, first_state, opening_places, places_after}
+use Rattle.law_machine_lives.proofs.FramesLaws.{holder_there}
 
 pub record FreeState {A : Type 0} (plan : Plan) (S : State A) : Type 0 where
   pub places : Places S
@@ -77,28 +64,6 @@ known_all plan S k = record {
 
 -- ---- the steps of sequences
 
-rests : (plan : Plan) (d : ℕ) (i : Option DeviceInfo) → (opening_sequence plan d i).running ≡ None
-rests plan d None = refl
-rests plan d (Some i) = refl
-
-all_rest : (plan : Plan) (ids : List ℕ) (d : ℕ) → (entry no_sequence (map (λ i. opening_sequence plan i (device_of plan i)) ids) d).running ≡ None
-all_rest plan [] d = refl
-all_rest plan (i ∷ ids) zero = rests plan i (device_of plan i)
-all_rest plan (i ∷ ids) (suc d) = all_rest plan ids d
-
-opening_steps : {A : Type 0} (plan : Plan) (m : Meaning A) → StepsIn 0 0 (opening plan m)
-opening_steps plan m = record {
-  number = refl;
-  framed = record {
-    once = λ f. let e = none_yet plan (λ x. x == f) in omega arith;
-    old = λ f is. let e = none_yet plan (λ x. x == f) in absurd (omega arith);
-    known = λ f is. let e = none_yet plan (λ x. x == f) in absurd (omega arith);
-    there = λ f is. let e = none_yet plan (λ x. x == f) in absurd (omega arith);
-  };
-  rooted = record { hollow = opening_hollow plan; root = refl; some = omega arith };
-  stepping = record { steps = λ d. none_yet plan (λ f. is_step_frame d (frame_of (opening_cpus plan) f)) ∙ sym (ap (λ r. flag (is_some r)) (all_rest plan (declared_ids plan) d)) };
-}
-
 told_more : {A : Type 0} (m : Meaning A) (e : Event) (N : ℕ) (S : State A) → StepsIn N (N + 1) S → StepsIn (counted m e S).number (counted m e S).number (counted m e S)
 told_more m e N S h =
     let more : N + 1 ≡ S.number + 1 = ap (λ n. n + 1) (sym h.number) in
@@ -124,15 +89,6 @@ family_after plan T U stays k = record {
 }
 
 -- ---- frames and locks
-
-framed_after : {A : Type 0} (plan : Plan) (ds : List Deed) (S : State A) → all_fit plan ds S ≡ true → AllSound plan ds S → Framing plan S → Framing plan (do_deeds plan ds S)
-framed_after plan [] S h s k = k
-framed_after plan (d ∷ ds) S h s k =
-    framed_after plan ds (do_deed plan d S) (both_right (fits plan d S) (all_fit plan ds (do_deed plan d S)) h) s.1
-    (framing_by plan d S (both_left (fits plan d S) (all_fit plan ds (do_deed plan d S)) h) s.0 k)
-
-told_framing : {A : Type 0} (plan : Plan) (m : Meaning A) (e : Event) (S : State A) → Framing plan S → Framing plan (counted m e S)
-told_framing plan m e S k = record { there = k.there; held = k.held }
 
 -- ---- the opening, an event, a tick
 
@@ -160,7 +116,7 @@ event_state {A} plan m S e h k =
     let fit : all_fit plan (deeds plan S e) S ≡ true = event_fits plan m S e h in
     let places : Places U = places_after plan (deeds plan S e) S fit k.places in
     let declared : DeclaredAgree plan U = declared_after plan (deeds plan S e) S fit k.declared in
-    let framing : Framing plan U = framed_after plan (deeds plan S e) S fit (all_sound plan m S e known h) k.framing in
+    let framing : Framing plan U = deeds_frame plan (deeds plan S e) S fit (all_sound plan m S e known h) k.framing in
     let once : Once U.locks = keeping.deeds_keep plan (λ (V : State A). Once V.locks) (locks_once.deed_keeps plan) (deeds plan S e) S fit k.once in
     record {
       places = places;
@@ -188,21 +144,6 @@ tick_state plan m S time k = record {
 }
 
 -- ---- who holds a lock is there
-
-found_by : (P : Held → Type 0) (p : Held → Bool) (h x : Held) (hs : List Held) (b : Bool) → p h ≡ b → P h → (find p hs ≡ Some x → P x) → (if b then Some h else find p hs) ≡ Some x → P x
-found_by P p h x hs true e is rest f = let same : h ≡ x = cc in subst P same is
-found_by P p h x hs false e is rest f = rest f
-
-found : (P : Held → Type 0) (p : Held → Bool) (x : Held) (hs : List Held) → Each P hs → find p hs ≡ Some x → P x
-found P p x [] each f = absurd (let z : ⊥ = cc in z)
-found P p x (h ∷ hs) each f = found_by P p h x hs (p h) refl each.0 (found P p x hs each.1) f
-
-held_there : {A : Type 0} (plan : Plan) (S : State A) (f : ℕ) (o : Option Held) → ((x : Held) → o ≡ Some x → IsHeld plan S x) → option_map (λ (h : Held). h.frame.0) o ≡ Some f → 1 ≤ on S.cpus f
-held_there plan S f None is e = absurd (let z : ⊥ = cc in z)
-held_there plan S f (Some h) is e = let same : h.frame.0 ≡ f = cc in subst (λ x. 1 ≤ on S.cpus x) same (is h refl).0
-
-holder_there : {A : Type 0} (plan : Plan) (S : State A) → Framing plan S → (l : LockRef) (f : ℕ) → holder S.locks l ≡ Some f → 1 ≤ on S.cpus f
-holder_there plan S k l f e = held_there plan S f (hold_of S.locks l) (λ x h. found (IsHeld plan S) (λ h. same_lock h.lock l) x S.locks.held k.held h) e
 
 -- ---- each place of a free run
 

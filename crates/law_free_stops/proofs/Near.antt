@@ -1,5 +1,5 @@
 -- The nearest device of a queue that is there is the device to which it belongs, at each place of a free run.
-use Rattle.std.proofs.Common.{◌≡◌, ℕ, zero, suc, ◌+◌, ◌==◌, ◌<◌, ◌≤◌, true, false, not, ◌&&◌, nat_lt, List, [], ◌∷◌, Option, Some, None, is_some, count_by, length, slice_get, refl, ap, subst, ◌∙◌, arith, map}
+use Rattle.std.proofs.Common.{◌≡◌, ℕ, zero, suc, ◌+◌, ◌==◌, ◌<◌, true, false, not, ◌&&◌, nat_lt, List, [], ◌∷◌, Some, count_by, length, slice_get, ap, subst, ◌∙◌, arith}
 use Rattle.std.proofs.lemmas.Bool.{eqb-true}
 use Rattle.std.proofs.lemmas.List.Sums.{length-filter}
 use Rattle.std.specs.List.{range_with_len}
@@ -12,9 +12,9 @@ use Rattle.wdf_base.specs.Lives.{is_gone}
 use Rattle.wdf_base.specs.Plan.{declared_of}
 use Rattle.wdf_base.specs.Resolved.{IsResolved, in_order, objects_in_order}
 use Rattle.wdf_base.specs.Same.{same_kind}
-use Rattle.wdf_model.specs.Tables.{flag, entry}
-use Rattle.wdf_model.specs.Plans.{as_device, as_queue}
-use Rattle.wdf_model.specs.parts.Tree.{Tree, children, gone, is_child, kind_of, life_of, made_as, may_destroy, nearest_device, node_of, parent_of, declared_node, opening_tree}
+use Rattle.wdf_model.specs.Tables.{flag}
+use Rattle.wdf_model.specs.Plans.{as_queue}
+use Rattle.wdf_model.specs.parts.Tree.{Tree, children, is_child, kind_of, life_of, made_as, may_destroy, nearest_device, node_of, parent_of}
 use Rattle.wdf_model.specs.parts.Cpus.{nobody_on}
 use Rattle.wdf_model.specs.State.{State, declared_in, opening}
 use Rattle.wdf_model.specs.declared.deed.Deed.{Deed}
@@ -25,14 +25,15 @@ use Rattle.law_machine_base.specs.OverRuns.{DeclaredAgree}
 use Rattle.wdf_model.proofs.Counts.{equal}
 use Rattle.wdf_model.proofs.Tests.{both, both_left, both_right}
 use Rattle.law_machine_lives.proofs.There.{deed_there}
-use Rattle.law_trace_families.proofs.Families.{Family, declared_within}
+use Rattle.law_trace_families.proofs.Families.{Family, declared_within, device_info}
 use Rattle.law_trace_families.proofs.Stays.{Stays, WasAt, deed_stays}
 use Rattle.law_trace_power.proofs.Belonging.{device_of_queue}
 use Rattle.law_trace_power.proofs.Declares.{is_device, nearest_by, own_device_of}
 use Rattle.law_free_runs.proofs.FreeStates.{family_after}
-use Rattle.wdf_base.specs.declared.declared.DeviceInfo.{DeviceInfo}
 use Rattle.wdf_base.specs.Meaning.{Meaning}
 use Rattle.law_machine_counts.proofs.Totals.{counts_it}
+use Rattle.law_machine_counts.proofs.Trees.{none_not_some}
+use Rattle.law_trace_families.proofs.Gone.{declared_there}
 
 -- ---- a queue belongs to a device that is declared before it
 
@@ -72,10 +73,6 @@ pub record Kin (plan : Plan) (T : Tree) : Type 0 where
   pub family : Family plan [] T
   pub above : (q : ℕ) (i : QueueInfo) → declared_of plan q ≡ Some (declared.Queue i) → is_gone (life_of T q) ≡ false → is_gone (life_of T i.device.0) ≡ false
 
-no_children : (n : ℕ) → (n == 0) ≡ true → 1 ≤ n → ⊥
-no_children zero e h = omega arith
-no_children (suc n) e h = let same : suc n ≡ 0 = eqb-true (suc n) 0 e in omega arith
-
 -- what has a child that is there doesn't end
 has_child : (T : Tree) (o x : ℕ) → may_destroy T o ≡ true → x < length T.nodes → parent_of T x ≡ o → is_gone (life_of T x) ≡ false → ⊥
 has_child T o x h within parent there =
@@ -84,7 +81,7 @@ has_child T o x h within parent there =
     let counted = counts_it (is_child T o) x 0 (length T.nodes) (omega arith) (omega arith) in
     let number : length (children T o) ≡ count_by (is_child T o) (range_with_len 0 (length T.nodes)) = length-filter (is_child T o) (range_with_len 0 (length T.nodes)) in
     let one : flag (is_child T o x) ≡ 1 = ap flag it in
-    no_children (length (children T o)) none (omega arith)
+    none_not_some (length (children T o)) none (omega arith)
 
 pub kin_by : {A : Type 0} (plan : Plan) (d : Deed) (S : State A) → fits plan d S ≡ true → Kin plan S.tree → Kin plan (do_deed plan d S).tree
 kin_by {A} plan d S fit k = record {
@@ -106,22 +103,13 @@ kin_by {A} plan d S fit k = record {
 
 -- ---- the nearest device
 
-device_is : (x : Option Declared) → is_some (as_device x) ≡ true → (i : DeviceInfo) × (x ≡ Some (declared.Device i))
-device_is (Some (declared.Device i)) h = (i, refl)
-device_is None h = absurd (let z : ⊥ = cc in z)
-device_is (Some declared.Driver) h = absurd (let z : ⊥ = cc in z)
-device_is (Some (declared.Queue x)) h = absurd (let z : ⊥ = cc in z)
-device_is (Some (declared.Interrupt x)) h = absurd (let z : ⊥ = cc in z)
-device_is (Some (declared.Target x)) h = absurd (let z : ⊥ = cc in z)
-device_is (Some (declared.OfClass x)) h = absurd (let z : ⊥ = cc in z)
-
 pub near : {A : Type 0} (plan : Plan) (S : State A) (q : ℕ) (i : QueueInfo) → IsResolved plan → DeclaredAgree plan S → Kin plan S.tree → declared_of plan q ≡ Some (declared.Queue i) → is_gone (life_of S.tree q) ≡ false → nearest_device S.tree q ≡ i.device.0
 near plan S q i resolved agree k at there =
     let T : Tree = S.tree in
     let d : ℕ = i.device.0 in
     let q_is = k.family.declared q (declared.Queue i) at there in
     let up : is_gone (life_of T d) ≡ false = k.above q i at there in
-    let info = device_is (declared_of plan d) (device_of_queue plan resolved q i (ap as_queue at)) in
+    let info = device_info (declared_of plan d) (device_of_queue plan resolved q i (ap as_queue at)) in
     let kind_is : kind_of T d ≡ kind.Device = (k.family.declared d (declared.Device info.0) info.1 up).1 in
     let declares : is_device (declared_in plan S d) ≡ true = ap (λ x. is_device (made_as plan (node_of T d) d x)) kind_is ∙ ap is_device info.1 in
     let low = older plan resolved q i at in
@@ -131,17 +119,8 @@ near plan S q i resolved agree k at there =
 
 -- ---- the opening
 
-live_at : (ds : List Declared) (k : ℕ) (d : Declared) → slice_get ds k ≡ Some d → is_gone (entry gone (map declared_node ds) k).life ≡ false
-live_at [] k d h = absurd (let z : ⊥ = cc in z)
-live_at (x ∷ xs) zero d h = refl
-live_at (x ∷ xs) (suc k) d h = live_at xs k d h
-
-live_first : (plan : Plan) (o : ℕ) (d : Declared) → declared_of plan o ≡ Some d → is_gone (life_of (opening_tree plan) o) ≡ false
-live_first plan zero d h = absurd (let z : ⊥ = cc in z)
-live_first plan (suc k) d h = live_at plan.declared k d h
-
 pub kin_opens : {A : Type 0} (plan : Plan) (m : Meaning A) → IsResolved plan → Family plan [] (opening plan m).tree → Kin plan (opening plan m).tree
 kin_opens plan m resolved family = record {
   family = family;
-  above = λ q i at there. let info = device_is (declared_of plan i.device.0) (device_of_queue plan resolved q i (ap as_queue at)) in live_first plan i.device.0 (declared.Device info.0) info.1;
+  above = λ q i at there. let info = device_info (declared_of plan i.device.0) (device_of_queue plan resolved q i (ap as_queue at)) in declared_there plan i.device.0 (declared.Device info.0) info.1;
 }

@@ -2,7 +2,6 @@
 use Rattle.std.proofs.Common.{◌≡◌, ◌≢◌, ℕ, ◌==◌, ◌≤◌, Bool, true, false, not, ◌&&◌, List, [], ◌∷◌, ◌++◌, inl, inr, Option, Some, None, drop, length, refl, sym, ap, subst, ◌∙◌, arith}
 use Rattle.std.specs.Prelude.{⊤}
 use Rattle.std.specs.List.{list_all}
-use Rattle.std.proofs.lemmas.Bool.{eqb-true}
 use Rattle.wdf_base.specs.Meaning.{Meaning}
 use Rattle.wdf_base.specs.Resolved.{IsResolved}
 use Rattle.wdf_base.specs.declared.plan.Plan.{Plan}
@@ -24,7 +23,6 @@ use Rattle.wdf_base.specs.Callbacks.{row_of}
 use Rattle.wdf_base.specs.Lives.{is_live}
 use Rattle.wdf_base.specs.Same.{same_callback, same_option, same_step}
 use Rattle.wdf_model.specs.Ids.{cpu_of, frame_id, irql_of, object_id}
-use Rattle.wdf_model.specs.Tables.{flag}
 use Rattle.wdf_model.specs.Plans.{callback_irql, device_of_queue, is_managed, managed_queues, queue_of}
 use Rattle.wdf_base.specs.declared.object.LockRef.{LockRef}
 use Rattle.wdf_base.specs.Plan.{declared_of}
@@ -47,13 +45,13 @@ use Rattle.wdf_model.proofs.Counts.{equal, one_or_two}
 use Rattle.wdf_model.proofs.Maps.{entry_put_other}
 use Rattle.wdf_model.proofs.FrameCounts.{on, seen}
 use Rattle.wdf_model.proofs.Sames.{callback_decides}
-use Rattle.wdf_model.proofs.Tests.{both, both_left, both_right, either_false, not_false, not_true}
+use Rattle.wdf_model.proofs.Tests.{both, both_left, both_right, either_false, not_true}
 use Rattle.law_machine_deeds.specs.MayDo.{ends_step, is_stage, is_start, may_do, starts_step}
 use Rattle.law_machine_deeds.proofs.Passing.{event_passes}
 use Rattle.law_machine_counts.proofs.FrameMoves.{FrameKept, kept_same}
 use Rattle.law_machine_counts.proofs.StepsOverRuns.{none_yet}
 use Rattle.law_machine_counts.proofs.StillFrames.{live_there}
-use Rattle.law_machine_lives.proofs.AllOf.{AllOf, all_behind}
+use Rattle.law_machine_lives.proofs.AllOf.{AllOf, all_behind, all_such}
 use Rattle.law_machine_lives.proofs.ReasonsOfEvents.{top_on}
 use Rattle.wdf_laws.specs.Laws.{is_managed_of}
 use Rattle.law_trace_power.proofs.Happens.{found_pass, found_run}
@@ -66,10 +64,12 @@ use Rattle.law_machine_lives.proofs.Sound.{AllSound, Sound}
 use Rattle.law_machine_lives.proofs.SoundRuns.{all_sound}
 use Rattle.law_trace_settled.proofs.Never.{not_empty}
 use Rattle.law_trace_settled.proofs.Queues.{of_device, of_each, queue_at}
-use Rattle.law_trace_settled.proofs.Stops.{IsNext, StopFrames, StopsAt, start_parts}
+use Rattle.law_trace_settled.proofs.Stops.{IsNext, StopFrames, StopsAt, same_stage_of, start_parts, unlike}
 use Rattle.law_free_runs.proofs.FreeStates.{FreeState, known_all}
 use Rattle.law_free_stops.proofs.Near.{Kin, kin_by, kin_opens, near}
 use Rattle.law_free_stops.proofs.Ways.{OnWay, Ways, pnp_stays, ways_by, ways_open}
+use Rattle.law_machine_counts.proofs.Totals.{flagged}
+use Rattle.law_machine_lives.proofs.Lists.{none_left}
 
 -- what is asked of a deed where it is done, so that it leaves `settled` the next step
 abbrev pub Minds : {A : Type 0} → Plan → Deed → State A → Type 0
@@ -102,10 +102,6 @@ all_stay plan C D Q R go keep stops f there is =
     let was : same_callback (frame_of C f).callback callback.EvtIoStop ≡ true = ap (λ c. same_callback c callback.EvtIoStop) (sym g.1.callback) ∙ is in
     let s : StopsAt plan Q (frame_of C f) = stops f g.0 was in
     stays_kept plan R (frame_of C f) (frame_of D f) g.1 (record { managed = s.managed; next = keep f g.0 was s.next })
-
-none_left : (ss : List Step) → not (length ss == 0) ≡ false → ss ≡ []
-none_left [] x = refl
-none_left (s ∷ ss) x = let e : length (s ∷ ss) ≡ 0 = eqb-true (length (s ∷ ss)) 0 (not_false (length (s ∷ ss) == 0) x) in absurd (omega arith)
 
 pub stops_by : {A : Type 0} (plan : Plan) (d : Deed) (S : State A) → fits plan d S ≡ true → Sound plan d S → Minds plan d S → StopFrames plan S.cpus S.pnp → StopFrames plan (do_deed plan d S).cpus (do_deed plan d S).pnp
 stops_by {A} plan (PushFrame cpu f frame level) S fit s minds stops =
@@ -150,8 +146,7 @@ plain_minds plan (EndStep d s v) S h = absurd (let z : ⊥ = cc in z)
 plain_minds plan _ S h = tt
 
 all_plain : {A : Type 0} (plan : Plan) (ds : List Deed) (S : State A) → list_all (λ d. not (is_minded d)) ds ≡ true → AllMind plan ds S
-all_plain plan [] S h = tt
-all_plain plan (d ∷ ds) S h = (plain_minds plan d S (not_true (is_minded d) (both_left (not (is_minded d)) (list_all (λ x. not (is_minded x)) ds) h)), all_plain plan ds (do_deed plan d S) (both_right (not (is_minded d)) (list_all (λ x. not (is_minded x)) ds) h))
+all_plain {A} plan ds S h = all_such plan (λ (d : Deed) (U : State A). Minds plan d U) (λ d. not (is_minded d)) (λ d U k. plain_minds plan d U (not_true (is_minded d) k)) ds S h
 
 unminded : (e : Event) → is_start e ≡ false → starts_step e ≡ false → is_stage e ≡ false → ends_step e ≡ false → (d : Deed) → may_do e d ≡ true → not (is_minded d) ≡ true
 unminded e s t g n (PushFrame cpu f frame level) h = absurd (let z : ⊥ = cc in z)
@@ -174,16 +169,6 @@ no_step_runs plan S k d n runs =
     let off : w.way.down ≡ false = w.idle runs in
     let z : ⊥ = cc in z
 
-running_by : (b : Bool) → 1 ≤ flag b → b ≡ true
-running_by true h = refl
-running_by false h = absurd (let z : ⊥ = omega arith in z)
-
-pass_next : (s : Stage) (j l : Option Handle) (ss ts : List Step) → step.Pass s j ∷ ss ≡ step.Pass stage.Settled l ∷ ts → s ≡ stage.Settled
-pass_next s j l ss ts h = let z : s ≡ stage.Settled = cc in z
-
-run_next : (c : Callback) (j l : Option Handle) (ss ts : List Step) → step.Run c j ∷ ss ≡ step.Pass stage.Settled l ∷ ts → ⊥
-run_next c j l ss ts h = cc
-
 module _ {A : Type 0} (plan : Plan) (m : Meaning A) (S : State A) (resolved : IsResolved plan) (free : FreeState plan S) (k : FreeStops plan S) where
   -- ---- a stage
 
@@ -194,7 +179,7 @@ module _ {A : Type 0} (plan : Plan) (m : Meaning A) (S : State A) (resolved : Is
       let a : StopsAt plan S.pnp (frame_of S.cpus f) = k.stops f there is in
       let now : same_option same_step (next_step S.pnp n.id.0) (Some (step.Pass s j)) ≡ true = both_left (same_option same_step (next_step S.pnp n.id.0) (Some (step.Pass s j))) (not (is_running_step S.pnp n.id.0)) (both_left (same_option same_step (next_step S.pnp n.id.0) (Some (step.Pass s j)) && not (is_running_step S.pnp n.id.0)) _ (both_left (step_ready S n.id.0 (step.Pass s j)) (stage_ready plan S n.id.0 s j) may_come)) in
       let here : steps_left S.pnp d ≡ step.Pass s j ∷ drop 1 (steps_left S.pnp d) = subst (λ y. steps_left S.pnp y ≡ step.Pass s j ∷ drop 1 (steps_left S.pnp y)) (sym at) (found_pass (steps_left S.pnp n.id.0) s j now) in
-      let settled : s ≡ stage.Settled = pass_next s j a.next.0 (drop 1 (steps_left S.pnp d)) (drop 1 (steps_left S.pnp d)) (sym here ∙ a.next.1) in
+      let settled : s ≡ stage.Settled = same_stage_of s j a.next.0 (drop 1 (steps_left S.pnp d)) (drop 1 (steps_left S.pnp d)) (sym here ∙ a.next.1) in
       let passes_ : may_pass plan S d stage.Settled j ≡ true = subst (λ y. may_pass plan S y stage.Settled j ≡ true) (sym at) (subst (λ y. may_pass plan S n.id.0 y j ≡ true) settled may_come) in
       let settles : is_settled plan S d ≡ true = both_right (step_ready S d (step.Pass stage.Settled j)) (stage_ready plan S d stage.Settled j) passes_ in
       let nobody : list_all (nobody_on S.cpus) (managed_queues plan d) ≡ true = both_right (length (unsettled S.power d) == 0) (list_all (nobody_on S.cpus) (managed_queues plan d)) settles in
@@ -222,7 +207,7 @@ module _ {A : Type 0} (plan : Plan) (m : Meaning A) (S : State A) (resolved : Is
       let it : is_step_frame (nearest_device S.tree o.id.0) (frame_of S.cpus g) ≡ true = both (is_sequence (row_of (frame_of S.cpus g).callback).rank) ((frame_of S.cpus g).device.id.0 == nearest_device S.tree o.id.0) (ap (λ y. is_sequence (row_of y).rank) (sym d.callback) ∙ is) (equal (frame_of S.cpus g).device.id.0 (nearest_device S.tree o.id.0) at) in
       let some_ = seen (λ f. is_step_frame (nearest_device S.tree o.id.0) (frame_of S.cpus f)) g (all_frames S.cpus) there it in
       let count = free.steps.stepping.steps (nearest_device S.tree o.id.0) in
-      no_step_runs plan S k (nearest_device S.tree o.id.0) n (running_by (is_running_step S.pnp (nearest_device S.tree o.id.0)) (omega arith))
+      no_step_runs plan S k (nearest_device S.tree o.id.0) n (flagged (is_running_step S.pnp (nearest_device S.tree o.id.0)) (omega arith))
 
   end_minds : (cpu : Cpu) (c : Callback) (o : Handle) (v : Value) → IsEnd plan S cpu.0 c o v → AllMind plan (deeds plan S (event.End cpu c o v)) S
   end_minds cpu c o v d = by (lock_of_callback plan c o.id.0 (declared_in plan S o.id.0)) (row_of c).rank refl
@@ -245,7 +230,7 @@ module _ {A : Type 0} (plan : Plan) (m : Meaning A) (S : State A) (resolved : Is
       let j : Option Handle = interrupt_of_step plan S o in
       let here : steps_left S.pnp n ≡ step.Run c j ∷ drop 1 (steps_left S.pnp n) = found_run (steps_left S.pnp n) c j now in
       let next_ : IsNext S.pnp n = subst (IsNext S.pnp) at a.next in
-      run_next c j next_.0 (drop 1 (steps_left S.pnp n)) (drop 1 (steps_left S.pnp n)) (sym here ∙ next_.1)
+      unlike c j next_.0 (drop 1 (steps_left S.pnp n)) (drop 1 (steps_left S.pnp n)) (sym here ∙ next_.1)
 
   start_minds : (cpu : ℕ) (c : Callback) (o : ℕ) (r : Option Handle) → is_ready_for plan m S cpu c o r ≡ true → AllMind plan (start_effect plan S cpu c o r) S
   start_minds cpu c o None h = by (row_of c).rank h

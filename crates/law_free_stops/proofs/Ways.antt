@@ -9,9 +9,6 @@ use Rattle.wdf_base.specs.declared.event.Stage.{Stage}
 use Rattle.wdf_base.specs.declared.event.Stage.TheVariants as stage
 use Rattle.wdf_base.specs.declared.event.Step.{Step}
 use Rattle.wdf_base.specs.declared.event.Step.TheVariants as step
-use Rattle.wdf_base.specs.declared.object.Place.{Place}
-use Rattle.wdf_base.specs.declared.object.Place.TheVariants as place
-use Rattle.wdf_base.specs.declared.object.RequestInfo.{RequestInfo}
 use Rattle.wdf_base.specs.declared.value.Value.{Value}
 use Rattle.wdf_model.specs.declared.enums.Mode.TheVariants as mode
 use Rattle.wdf_model.specs.Tables.{entry, first_of_list}
@@ -25,7 +22,7 @@ use Rattle.wdf_model.specs.parts.Tree.{subtree}
 use Rattle.wdf_model.specs.State.{State}
 use Rattle.wdf_model.specs.declared.deed.Deed.{Deed}
 use Rattle.wdf_model.specs.declared.deed.Deed.TheVariants.{Arrive, AskDeletion, AskDevice, CloseDevice, CloseReturning, CompleteRequest, EndStep, Forward, GiveBack, PurgeQueue, Requeue, SendRequest, TakeStep}
-use Rattle.wdf_model.specs.rules.Deeds.{arrive_at, do_deed, give_up}
+use Rattle.wdf_model.specs.rules.Deeds.{do_deed, give_up}
 use Rattle.law_machine_base.specs.Fits.{fits}
 use Rattle.wdf_model.proofs.Counts.{one_or_two}
 use Rattle.wdf_model.proofs.Maps.{entry_put_other, entry_put_same}
@@ -34,6 +31,7 @@ use Rattle.law_machine_lives.proofs.Stays.{asks_all, gives_up, gives_up_if, queu
 use Rattle.law_trace_settled.proofs.Along.{Way, asked, failed, may_begin, may_pass, next, passes}
 use Rattle.law_trace_settled.proofs.Along as along
 use Rattle.law_trace_settled.proofs.Laws.{listed_by}
+use Rattle.law_machine_counts.proofs.Arrived.{arrived_pnp}
 
 -- of a device's steps left, and the one that runs
 pub record OnWay (q : Sequence) : Type 0 where
@@ -95,13 +93,9 @@ is_step_deed (TakeStep d) = true
 is_step_deed (EndStep d s v) = true
 is_step_deed _ = false
 
-arrived : {A : Type 0} (S : State A) (device : ℕ) (info : RequestInfo) (p : Place) → (arrive_at S device info p).pnp ≡ S.pnp
-arrived S device info (place.Queued q) = refl
-arrived S device info _ = refl
-
 -- what devices have left is touched by these three alone
 pub pnp_stays : {A : Type 0} (plan : Plan) (d : Deed) (S : State A) → is_step_deed d ≡ false → (do_deed plan d S).pnp ≡ S.pnp
-pnp_stays plan (Arrive device info p) S h = arrived S device.0 info p
+pnp_stays plan (Arrive device info p) S h = arrived_pnp S device.0 info p
 pnp_stays plan (AskDeletion o) S h = asks_all (λ (T : State _). T.pnp) (λ S T D W U. refl) (subtree S.tree o.0) S
 pnp_stays plan (Requeue r q) S h = gives_up (λ (T : State _). T.pnp) (λ S Q R P. refl) S r.0
 pnp_stays plan (Forward r q) S h = gives_up (λ (T : State _). T.pnp) (λ S Q R P. refl) S r.0

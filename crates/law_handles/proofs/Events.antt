@@ -1,10 +1,10 @@
 -- What an event tells frames and cells are handles of objects that were made, with their names.
-use Rattle.std.proofs.Common.{if◌then◌else◌, ◌≡◌, inl, inr, ℕ, ◌+◌, ◌<◌, ◌≤◌, ◌==◌, Bool, true, false, ◌&&◌, ◌||◌, not, List, [], ◌∷◌, ◌++◌, length, count_by, Option, Some, None, slice_get, refl, sym, ap, ◌∙◌, subst, arith, eqb-true, length-append}
+use Rattle.std.proofs.Common.{if◌then◌else◌, ◌≡◌, ℕ, ◌+◌, ◌<◌, ◌≤◌, ◌==◌, Bool, true, false, ◌&&◌, ◌||◌, not, List, [], ◌∷◌, ◌++◌, length, count_by, Option, Some, None, slice_get, refl, sym, ap, ◌∙◌, subst, arith, eqb-true, length-append}
 use Rattle.wdf_base.specs.Meaning.{Meaning}
 use Rattle.wdf_base.specs.Callbacks.{row_of}
 use Rattle.wdf_base.specs.Kinds.{class_kind, deferred_kind}
 use Rattle.wdf_base.specs.Lives.{is_asked, is_cleaned, is_live}
-use Rattle.wdf_base.specs.Same.{same_call_kind, same_kind}
+use Rattle.wdf_base.specs.Same.{same_call_kind}
 use Rattle.wdf_base.specs.Places.{is_due, is_queued_in, is_returning_to, is_sent_to}
 use Rattle.wdf_base.specs.declared.plan.Plan.{Plan}
 use Rattle.wdf_base.specs.declared.ids.Cpu.{Cpu}
@@ -41,7 +41,7 @@ use Rattle.wdf_model.specs.declared.deed.Deed.TheVariants.{EnqueueDpc, GoOn, Pus
 use Rattle.wdf_model.specs.declared.entries.Node.{Node}
 use Rattle.wdf_model.specs.Ids.{cpu_of, frame_id, irql_of, object_id}
 use Rattle.wdf_model.specs.Plans.{callback_irql, declares, is_manual_queue, is_parallel_queue, kind_of_class, name_of_class, parent_of_class}
-use Rattle.wdf_model.specs.Tables.{entry, first_of_list, flag, same_id}
+use Rattle.wdf_model.specs.Tables.{first_of_list, flag, same_id}
 use Rattle.wdf_model.specs.parts.Cpus.{frame_of, top}
 use Rattle.wdf_model.specs.parts.Locks.{lock_of_callback}
 use Rattle.wdf_model.specs.parts.Queues.{front, waiting_in}
@@ -50,7 +50,7 @@ use Rattle.wdf_model.specs.parts.Deferred.Dpcs.{is_dpc_queued}
 use Rattle.wdf_model.specs.parts.Interrupts.{is_enabled}
 use Rattle.wdf_model.specs.parts.Requests.{is_cancelled, mark_of, no_request, origin_of, place_of}
 use Rattle.wdf_model.specs.parts.Targets.{is_forgotten}
-use Rattle.wdf_model.specs.parts.Tree.{Tree, cell_of, gone, is_full, life_of, made_as, name_as, nearest_device, nearest_devices, new_node, node_of, own_device}
+use Rattle.wdf_model.specs.parts.Tree.{Tree, cell_of, gone, is_full, life_of, made_as, name_as, nearest_device, new_node, node_of}
 use Rattle.wdf_model.specs.parts.Tree as tree
 use Rattle.wdf_model.specs.State.{State, declared_in, handle_in, held_at, is_held_from, is_proper, is_with_driver, object_in, queue_delivers}
 use Rattle.wdf_model.specs.rules.Calls.{Outcome, class_in, create_outcome, creation, forward_outcome, forwards_nowhere, is_met_then, mark_outcome, may_send, new_handle, number, number_in, origin_or_none, outcome, refused, requeue_outcome, retrieve_front, retrieve_outcome, second_deeds}
@@ -58,8 +58,8 @@ use Rattle.wdf_model.specs.rules.Faults.{arg_is}
 use Rattle.wdf_model.specs.rules.Script.{intent_of}
 use Rattle.wdf_model.specs.rules.Starts.{life_fits, may_start, new_frame, next_number, rank_ready_for, start_effect, take_if_any}
 use Rattle.wdf_model.specs.rules.Steps.{answered, by_top, deeds, did_deeds, goes_on, is_cpu, may, spending, stepped, waiting, waiting_deeds, woke_deeds}
-use Rattle.wdf_model.proofs.Counts.{count_yes, one_or_two}
-use Rattle.wdf_model.proofs.Maps.{entry_before, entry_last}
+use Rattle.wdf_model.proofs.Counts.{count_yes}
+use Rattle.wdf_model.proofs.Maps.{entry_last}
 use Rattle.wdf_model.proofs.Tests.{both_left, both_right, itself}
 use Rattle.law_machine_base.proofs.FitsOfEvents.{by_its_top}
 use Rattle.law_machine_base.proofs.OwnEvents.{IsDid, IsWaiting, IsWoke, did_tells, waiting_tells, woke_tells}
@@ -72,6 +72,7 @@ use Rattle.law_trace_families.proofs.Stays.{Stays}
 use Rattle.law_handles.specs.Handles.{InArg, InCall, InFrame, InOption, InPending, InValue, IsNamed}
 use Rattle.law_handles.proofs.Changes.{AllTell, Tells, is_telling, none_tell}
 use Rattle.law_handles.proofs.Values.{InIntent, answered_in, goes_on_in, intent_in, spending_in, stepped_in, waits_in, zeros}
+use Rattle.law_machine_counts.proofs.Nearest.{nearest_below}
 
 -- ---- names stay, and a new object has the name of its class
 
@@ -164,24 +165,6 @@ module _ {A : Type 0} (plan : Plan) (m : Meaning A) (S : State A) (known : Known
   ready_there _ c o r h = absurd (let z : ⊥ = cc in z)
 
 -- ---- the nearest device of an object
-
-either_below : (n : ℕ) (b : Bool) (x y : ℕ) → x < n → y < n → (if b then x else y) < n
-either_below n true x y h k = h
-either_below n false x y h k = k
-
-one_more : (n : ℕ) (before : List ℕ) (x : ℕ) → x < n → ((o : ℕ) → entry 1 before o < n) → (o : ℕ) → entry 1 (before ++ x ∷ []) o < n
-one_more n before x h each o = elim (one_or_two o (length before)) [
-  | inl e ↦ rw e (subst (λ y. y < n) (sym (entry_last 1 before x)) h)
-  | inr d ↦ subst (λ y. y < n) (sym (entry_before 1 before x o d)) (each o)
-]
-
-nearest_below : (n : ℕ) (before : List ℕ) (ns : List Node) → length before + length ns ≤ n → ((o : ℕ) → entry 1 before o < n) → (o : ℕ) → entry 1 (nearest_devices before ns) o < n
-nearest_below n before [] fits each o = each o
-nearest_below n before (m ∷ ns) fits each o =
-    let x : ℕ = own_device before (length before) m in
-    let here : length before < n = omega (arith, fits) in
-    let long : length (before ++ x ∷ []) ≡ length before + 1 = length-append before (x ∷ []) in
-    nearest_below n (before ++ x ∷ []) ns (omega (arith, fits, long)) (one_more n before x (either_below n (same_kind m.kind kind.Device) (length before) (entry 1 before m.parent.0) here (each m.parent.0)) each) o
 
 -- ---- what is told
 

@@ -1,9 +1,9 @@
 -- At each place of every run of a resolved plan the handles that scripts know are of objects that were made, with their names.
-use Rattle.std.proofs.Common.{◌≡◌, inl, inr, ℕ, zero, suc, ◌<◌, ◌==◌, true, false, ◌||◌, List, [], ◌∷◌, length, map, slice_index_or, Option, Some, None, option_and_then, slice_get, take, refl, sym, ap, ◌∙◌, subst, arith, eqb-true}
+use Rattle.std.proofs.Common.{◌≡◌, inl, inr, ℕ, zero, suc, ◌<◌, ◌==◌, true, false, ◌||◌, List, [], ◌∷◌, length, map, slice_index_or, Option, Some, None, option_and_then, slice_get, take, refl, sym, ap, ◌∙◌, subst, arith}
 use Rattle.std.proofs.lemmas.Bool.{cases_Bool, or_cases}
 use Rattle.std.specs.Option.{unwrap_or}
 use Rattle.std.proofs.lemmas.List.{length-map}
-use Rattle.std.proofs.lemmas.Option.{same_Some, slice_get_within}
+use Rattle.std.proofs.lemmas.Option.{slice_get_within}
 use Rattle.wdf_base.specs.Meaning.{Meaning}
 use Rattle.wdf_base.specs.Kinds.{declared_kind, declared_name}
 use Rattle.wdf_base.specs.Lives.{is_gone}
@@ -44,6 +44,9 @@ use Rattle.law_handles.specs.Handles.{AllNamed, InCall, InFrame, InValue, IsName
 use Rattle.law_handles.proofs.Changes.{deeds_in}
 use Rattle.law_handles.proofs.Events.{event_tells, named_still, new_named}
 use Rattle.law_handles.proofs.Values.{InIntent, frame_more, intent_in, value_more, zeros}
+use Rattle.law_machine_lives.proofs.Lists.{some_number}
+use Rattle.law_trace_families.proofs.Families.{declared_at}
+use Rattle.law_trace_families.proofs.Telling.{creates}
 
 -- what is so of a state, and with it of the id 0 and of the objects that the plan's expressions name
 pub record Named {A : Type 0} (plan : Plan) (S : State A) : Type 0 where
@@ -78,10 +81,6 @@ node_at plan from (x ∷ xs) zero n h at =
     (from, subst (λ y. node_fits plan from y ≡ true) same (both_left (node_fits plan from x) (nodes_fit plan (suc from) xs) h))
 node_at plan from (x ∷ xs) (suc k) n h at = node_at plan (suc from) xs k n (both_right (node_fits plan from x) (nodes_fit plan (suc from) xs) h) at
 
-some_number : (o : Option ℕ) (n : ℕ) → same_option ◌==◌ o (Some n) ≡ true → o ≡ Some n
-some_number None n h = absurd (let z : ⊥ = cc in z)
-some_number (Some x) n h = ap Some (eqb-true x n h)
-
 -- the name of a declared object, which is no object of a class
 name_by : (plan : Plan) (k : Kind) (name j : ℕ) (d : Declared) → declared_of plan (suc j) ≡ Some d → same_option same_kind (declared_kind d) (Some k) ≡ true → declared_name d ≡ Some name
     → name ≡ name_as plan (made_as plan (declared_node d) (suc j) (declared_node d).kind)
@@ -92,11 +91,6 @@ name_by plan k name j (declared.Interrupt i) at is named = rw at (ap (λ o. unwr
 name_by plan k name j (declared.Target t) at is named = rw at (ap (λ o. unwrap_or o 0) (sym named))
 name_by plan k name j (declared.OfClass c) at is named = absurd (let z : ⊥ = cc in z)
 
-entry_of : (ds : List Declared) (j : ℕ) (d : Declared) → slice_get ds j ≡ Some d → entry gone (map declared_node ds) j ≡ declared_node d
-entry_of [] j d at = absurd (let z : ⊥ = cc in z)
-entry_of (x ∷ xs) zero d at = ap declared_node (same_Some x d at)
-entry_of (x ∷ xs) (suc j) d at = entry_of xs j d at
-
 -- what is said of a handle by its id and its name
 abbrev NamedAt : Plan → ℕ → ℕ → Type 0
 NamedAt plan o name = (o < length (opening_tree plan).nodes) × (name ≡ (tree.handle_of plan (opening_tree plan) o).name)
@@ -106,7 +100,7 @@ declared_named : (plan : Plan) (k : Kind) (name j : ℕ) (o : Option Declared) �
 declared_named plan k name j None at is named = absurd (let z : ⊥ = cc in z)
 declared_named plan k name j (Some d) at is named =
     let low : j < length plan.declared = slice_get_within plan.declared j d at in
-    let node : node_of (opening_tree plan) (suc j) ≡ declared_node d = entry_of plan.declared j d at in (
+    let node : node_of (opening_tree plan) (suc j) ≡ declared_node d = declared_at plan.declared j d at in (
       (let long = length-map plan.declared declared_node in omega (arith, low, long)),
       name_by plan k name j d at is (some_number (declared_name d) name named) ∙ ap (λ (n : Node). name_as plan (made_as plan n (suc j) n.kind)) (sym node),
     )
@@ -159,10 +153,6 @@ opens plan m resolved =
     }
 
 -- ---- an event
-
-creates : {A : Type 0} (plan : Plan) (S : State A) (k : Kind) (class parent : ℕ) → (do_deeds plan (creation k class parent ∷ []) S).tree ≡ tree.create S.tree k class parent
-creates plan S kind.Made class parent = refl
-creates plan S _ class parent = refl
 
 module _ {A : Type 0} (plan : Plan) (m : Meaning A) (S : State A) where
   new_by : (e : Event) (cpu : ℕ) (c : Call) (v : Value) (d : IsDid plan S cpu c v) (class parent : ℕ) → e ≡ event.Did (cpu_of cpu) c v

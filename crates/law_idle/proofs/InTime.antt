@@ -101,10 +101,6 @@ free now x h = free_by now x (policies.is_wanted x) (policies.is_idle x && nat_l
 
 -- ---- lists
 
-all_by : (p : ℕ → Bool) (xs : List ℕ) → ((d : ℕ) → p d ≡ true) → list_all p xs ≡ true
-all_by p [] h = refl
-all_by p (x ∷ xs) h = rw (h x, all_by p xs h) refl
-
 all_kept : (keep p : ℕ → Bool) (xs : List ℕ) → ((d : ℕ) → keep d ≡ true → p d ≡ true) → list_all p (filter keep xs) ≡ true
 all_kept keep p [] h = refl
 all_kept keep p (x ∷ xs) h = by (keep x) refl (all_kept keep p xs h)

@@ -1,5 +1,5 @@
 -- At each place of a run the policy knows of each device what the words of the law say.
-use Rattle.std.proofs.Common.{if◌then◌else◌, ◌≡◌, ◌≤◌, ◌<◌, ℕ, zero, suc, ◌+◌, Bool, true, false, nat_lt, List, [], ◌∷◌, ◌++◌, ◌⊎◌, inl, inr, Option, Some, None, is_some, filter, option_map, length, map, slice_get, take, refl, sym, ap, subst, ◌∙◌, arith}
+use Rattle.std.proofs.Common.{if◌then◌else◌, ◌≡◌, ◌≤◌, ◌<◌, ℕ, zero, suc, ◌+◌, Bool, true, false, nat_lt, List, [], ◌∷◌, ◌++◌, ◌⊎◌, inl, inr, Option, Some, None, is_some, option_map, length, map, slice_get, take, refl, sym, ap, subst, ◌∙◌, arith}
 use Rattle.std.specs.List.{filter_map, range_with_len}
 use Rattle.std.proofs.lemmas.Bool.{ltb-true}
 use Rattle.std.proofs.lemmas.Bool.Decides.{nat_tests}
@@ -38,7 +38,7 @@ use Rattle.law_machine_base.proofs.OwnEvents.{did_tells}
 use Rattle.law_machine_room.specs.Kept.{RoomKept}
 use Rattle.law_machine_room.proofs.DoableRuns.{ready_within}
 use Rattle.law_machine_room.proofs.RoomLaws.{room_is_kept}
-use Rattle.law_stuck_causes.proofs.Members.{Has, has_mapped, has_range}
+use Rattle.law_stuck_causes.proofs.Members.{Has, among_of, has_kept, has_mapped, has_range}
 use Rattle.law_trace_power.proofs.Laws.{comes_by}
 use Rattle.law_trace_families.proofs.Families.{declared_within}
 use Rattle.wdf_laws.specs.Events.{argument_object}
@@ -107,27 +107,13 @@ opens_each plan S j x h =
     let p = part_by plan g.0 (nat_lt 0 (timeout_of plan g.0)) (device_of plan g.0) x refl refl g.1 in
     subst (λ y. Knows plan S [] y) p.1.2 (opens_one plan S g.0 p.1.0 p.1.1 p.0)
 
-kept_later : {T : Type 0} (p : T → Bool) (x y : T) (ys : List T) (b : Bool) → p y ≡ b → Has x (filter p ys) → Has x (filter p (y ∷ ys))
-kept_later p x y ys true e h = rw e (inr h)
-kept_later p x y ys false e h = rw e h
-
-kept_has : {T : Type 0} (p : T → Bool) (x : T) (xs : List T) → Has x xs → p x ≡ true → Has x (filter p xs)
-kept_has p x [] h k = absurd h
-kept_has p x (y ∷ ys) (inl e) k = let is : p y ≡ true = ap p (sym e) ∙ k in rw is (inl e)
-kept_has p x (y ∷ ys) (inr h) k = kept_later p x y ys (p y) refl (kept_has p x ys h k)
-
-placed : {T : Type 0} (x : T) (xs : List T) → Has x xs → (j : ℕ) × (slice_get xs j ≡ Some x)
-placed x [] h = absurd h
-placed x (y ∷ ys) (inl e) = (0, ap Some (sym e))
-placed x (y ∷ ys) (inr h) = let r = placed x ys h in (suc r.0, r.1)
-
 opens_covers : (plan : Plan) (d : ℕ) (info : DeviceInfo) → device_of plan d ≡ Some info → nat_lt 0 (timeout_of plan d) ≡ true → (j : ℕ) × (x : IdleDevice) × (slice_get (policy_at plan).devices j ≡ Some x) × (x.device.id.0 ≡ d)
 opens_covers plan d info at part =
     let within = declared_within plan d _ (device_is_declared plan d info at) in
     let there : Has d (declared_ids plan) = has_range d 0 (suc (length plan.declared)) (omega arith) (omega (arith, within)) in
-    let device : Has d (devices_of plan) = kept_has (λ id. is_some (device_of plan id)) d (declared_ids plan) there (rw at refl) in
+    let device : Has d (devices_of plan) = has_kept (λ id. is_some (device_of plan id)) d (declared_ids plan) there (rw at refl) in
     let is : device_if_part plan d ≡ Some (device_at plan d info) = rw (part, at) refl in
-    let slot = placed (device_at plan d info) (policy_at plan).devices (has_mapped (device_if_part plan) d (device_at plan d info) (devices_of plan) device is) in
+    let slot = among_of (device_at plan d info) (policy_at plan).devices (has_mapped (device_if_part plan) d (device_at plan d info) (devices_of plan) device is) in
     (slot.0, device_at plan d info, slot.1, refl)
 
 first_agent : {A : Type 0} (plan : Plan) (m : Meaning A) → slice_get (opening plan m).agents 0 ≡ Some (m.begin plan 0)

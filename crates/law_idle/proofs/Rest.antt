@@ -1,5 +1,5 @@
 -- What the words say of a device's rest stays so in the machine, whatever event comes.
-use Rattle.std.proofs.Common.{if◌then◌else◌, ◌≡◌, ℕ, ◌==◌, Bool, true, false, not, ◌&&◌, ◌||◌, List, [], ◌∷◌, ◌++◌, inl, inr, Option, Some, None, drop, length, refl, sym, ap, subst, ◌∙◌, arith}
+use Rattle.std.proofs.Common.{if◌then◌else◌, ◌≡◌, ℕ, ◌==◌, Bool, true, false, not, ◌&&◌, ◌||◌, List, [], ◌∷◌, ◌++◌, inl, inr, Option, Some, None, drop, length, refl, sym, ap, subst, ◌∙◌}
 use Rattle.std.proofs.lemmas.Bool.{eqb-true}
 use Rattle.wdf_base.specs.declared.ids.Cpu.{Cpu}
 use Rattle.wdf_base.specs.declared.ids.Handle.{Handle}
@@ -28,17 +28,19 @@ use Rattle.wdf_model.specs.State.{State}
 use Rattle.wdf_model.specs.agents.IdlePolicy.{ends_asleep, ends_awake}
 use Rattle.wdf_model.proofs.Counts.{equal, not_equal, one_or_two}
 use Rattle.wdf_model.proofs.Maps.{entry_put_other, entry_put_same}
-use Rattle.wdf_model.proofs.Tests.{either_false, not_false}
+use Rattle.wdf_model.proofs.Tests.{either_false}
 use Rattle.wdf_laws.specs.Events.{is_id, where_so}
 use Rattle.wdf_laws.specs.Events.{is_success as laws_success}
 use Rattle.law_machine_base.specs.Agreement.{is_sequence}
-use Rattle.law_trace_power.proofs.Happens.{not_running, taken_pass, taken_run}
+use Rattle.law_trace_power.proofs.Happens.{not_running, success_same, taken_pass, taken_run}
 use Rattle.law_trace_turns.specs.Turned.{Asked, Begun, Ended, Passed, Still, Turned, is_asking, is_turning}
 use Rattle.wdf_model.specs.agents.StackManager.{is_working}
 use Rattle.law_idle.specs.Idling.{Rest, asleep_step, awake_step, refuses_removal, refuses_stop, rest_after}
-use Rattle.law_idle.specs.Resting.{IsAtRest, Rests, has_query, is_sleeping, is_tidy, step_if_any, under_way}
+use Rattle.law_idle.specs.Resting.{IsAtRest, Rests, has_query, is_sleeping, is_tidy}
 use Rattle.law_idle.proofs.Lists.{end_asks_not, end_tidy, lists_tidy, rest_is_last, tail_asks_not, tail_asks_nothing, tail_is_tidy, tidy_tail}
-use Rattle.law_idle.proofs.Steps.{success_same}
+use Rattle.law_machine_lives.proofs.Lists.{none_left}
+use Rattle.law_trace_power.specs.UnderWay.{step_if_any, under_way}
+use Rattle.law_trace_power.proofs.Sequences.{refused_query}
 
 -- ---- truth values
 
@@ -147,11 +149,6 @@ refusal_by d cpu callback.EvtDeviceQueryStop o v h = let t = told d o v (laws_su
 refusal_by d cpu callback.EvtDeviceQueryRemove o v h = let t = told d o v (laws_success v) refl h in record { query = refl; fails = t.0; on = t.1 }
 refusal_by d cpu _ o v h = absurd (let z : ⊥ = cc in z)
 
-nothing_left : (q : Sequence) (c : Callback) → is_query c ≡ true → left_after_failure q c ≡ []
-nothing_left q callback.EvtDeviceQueryStop h = refl
-nothing_left q callback.EvtDeviceQueryRemove h = refl
-nothing_left q _ h = absurd (let z : ⊥ = cc in z)
-
 failure_asks_not : (q : Sequence) (c : Callback) → has_query q.left ≡ false → has_query (left_after_failure q c) ≡ false
 failure_asks_not q callback.EvtDeviceQueryStop h = refl
 failure_asks_not q callback.EvtDeviceQueryRemove h = refl
@@ -204,7 +201,7 @@ module _ (d : ℕ) (W Z : Rest) (q : Sequence) (cpu : Cpu) (c : Callback) (j l :
   at_rest : (phase : Phase → Bool) → phase q.phase ≡ true → IsRefusal d c o v → IsAtRest phase (record q { left = left; running = None })
   at_rest phase h f = record {
     phase_is = h;
-    left = let n : left ≡ left_after_failure q c = rw f.fails refl in n ∙ nothing_left q c f.query;
+    left = let n : left ≡ left_after_failure q c = rw f.fails refl in n ∙ refused_query q c f.query;
     running = refl;
   }
 
@@ -345,10 +342,6 @@ asks_for W Z q a idle _ r = record {
 }
 
 -- ---- each event
-
-none_left : (ss : List Step) → not (length ss == 0) ≡ false → ss ≡ []
-none_left [] x = refl
-none_left (s ∷ ss) x = let e : length (s ∷ ss) ≡ 0 = eqb-true (length (s ∷ ss)) 0 (not_false (length (s ∷ ss) == 0) x) in absurd (omega arith)
 
 same_rests : (d : ℕ) (W Z : Rest) (e : Event) (q p : Sequence) → SameWords d W Z e → p ≡ q → Rests W Z q → Rests (awake_step d W e) (asleep_step d Z e) p
 same_rests d W Z e q p w same r = subst (λ X. Rests X (asleep_step d Z e) p) (sym w.0) (subst (λ X. Rests W X p) (sym w.1) (subst (λ x. Rests W Z x) (sym same) r))

@@ -4,7 +4,6 @@ use Rattle.std.proofs.Math.Bool.{or-false}
 use Rattle.wdf_base.specs.declared.ids.Cpu.{Cpu}
 use Rattle.wdf_base.specs.declared.ids.Handle.{Handle}
 use Rattle.wdf_base.specs.declared.value.Value.{Value}
-use Rattle.wdf_base.specs.declared.value.Value.TheVariants.{Num, Obj, Stat}
 use Rattle.wdf_base.specs.declared.call.Callback.{Callback}
 use Rattle.wdf_base.specs.declared.call.Callback.TheVariants as callback
 use Rattle.wdf_base.specs.declared.event.Access.TheVariants as access
@@ -22,6 +21,7 @@ use Rattle.wdf_model.specs.agents.IdlePolicy.{IdleDevice, asleep_after, awake_af
 use Rattle.wdf_laws.specs.Events.{is_id, where_so}
 use Rattle.wdf_laws.specs.Events.{is_success as laws_success}
 use Rattle.law_idle.specs.Idling.{Rest, asleep_step, awake_step, hold_step, is_ended}
+use Rattle.law_trace_power.proofs.Happens.{success_same}
 
 -- ---- truth values
 
@@ -48,11 +48,6 @@ goes ends false false false x = refl
 was : (a w b : Bool) (x : Ask) → (if b then a else w) ≡ (if is_some (if b then Some x else None) then a else w)
 was a w true x = refl
 was a w false x = refl
-
-pub success_same : (v : Value) → is_success v ≡ laws_success v
-success_same (Num n) = refl
-success_same (Obj o) = refl
-success_same (Stat s) = refl
 
 shown : (d o : ℕ) (b : Bool) → is_id d (where_so b (Some o)) ≡ (b && o == d)
 shown d o true = refl

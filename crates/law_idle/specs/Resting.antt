@@ -1,5 +1,5 @@
 -- What a device that is awake or asleep has under way, and how steps follow one another.
-use Rattle.std.specs.Prelude.{◌≡◌, Bool, true, false, not, ◌&&◌, ◌||◌, List, [], ◌∷◌, ◌++◌, Option, Some, None}
+use Rattle.std.specs.Prelude.{◌≡◌, Bool, true, false, not, ◌&&◌, ◌||◌, List, [], ◌∷◌, None}
 use Rattle.std.specs.List.{list_any}
 use Rattle.wdf_base.specs.declared.event.Stage.{Stage}
 use Rattle.wdf_base.specs.declared.event.Stage.TheVariants as stage
@@ -11,6 +11,7 @@ use Rattle.wdf_model.specs.declared.enums.Phase.TheVariants.{Sleeping}
 use Rattle.wdf_model.specs.parts.Pnp.{Sequence}
 use Rattle.law_trace_power.specs.Steps.{is_working}
 use Rattle.law_idle.specs.Idling.{Rest}
+use Rattle.law_trace_power.specs.UnderWay.{under_way}
 
 -- own: the phase of a device that sleeps
 abbrev pub is_sleeping : Phase → Bool
@@ -46,15 +47,6 @@ is_end (s ∷ ss) = false
 abbrev pub is_tidy : List Step → Bool
 is_tidy [] = true
 is_tidy (s ∷ ss) = (not (is_rest_step s) || is_end ss) && not (has_query ss) && is_tidy ss
-
--- own: the step whose callback runs, if there is one
-abbrev pub step_if_any : Option Step → List Step
-step_if_any None = []
-step_if_any (Some s) = s ∷ []
-
--- own: the step whose callback runs, and the steps left
-abbrev pub under_way : Sequence → List Step
-under_way q = step_if_any q.running ++ q.left
 
 -- own: nothing is under way in this phase
 pub record IsAtRest (phase : Phase → Bool) (q : Sequence) : Type 0 where

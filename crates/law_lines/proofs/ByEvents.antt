@@ -1,8 +1,7 @@
 -- What the deeds of an event give is of the plan, where the event is.
-use Rattle.std.proofs.Common.{if◌then◌else◌, ◌≡◌, ℕ, ◌+◌, ◌<◌, ◌≤◌, ◌^◌, Bool, true, false, List, [], ◌∷◌, ◌++◌, length, Option, Some, None, option_and_then, inl, inr, sym, subst, arith, length-append}
+use Rattle.std.proofs.Common.{if◌then◌else◌, ℕ, ◌+◌, ◌<◌, ◌^◌, Bool, true, false, List, [], ◌∷◌, ◌++◌, Option, Some, None, option_and_then, arith}
 use Rattle.wdf_base.specs.Callbacks.{row_of}
 use Rattle.wdf_base.specs.Meaning.{Meaning}
-use Rattle.wdf_base.specs.Same.{same_kind}
 use Rattle.wdf_base.specs.declared.plan.Plan.{Plan}
 use Rattle.wdf_base.specs.declared.ids.Handle.{Handle}
 use Rattle.wdf_base.specs.declared.call.Callback.{Callback}
@@ -17,7 +16,6 @@ use Rattle.wdf_base.specs.declared.frame.Change.TheVariants as change
 use Rattle.wdf_base.specs.declared.frame.Frame.{Frame}
 use Rattle.wdf_base.specs.declared.frame.Intent.{Intent}
 use Rattle.wdf_base.specs.declared.frame.Intent.TheVariants as intent
-use Rattle.wdf_base.specs.declared.object.Kind.TheVariants as kind
 use Rattle.wdf_base.specs.declared.object.LockRef.{LockRef}
 use Rattle.wdf_base.specs.declared.object.Place.{Place}
 use Rattle.wdf_base.specs.declared.object.Place.TheVariants as place
@@ -29,10 +27,8 @@ use Rattle.wdf_base.specs.declared.script.Statement.{Statement}
 use Rattle.wdf_base.specs.declared.value.Value.{Value}
 use Rattle.wdf_base.specs.declared.value.Value.TheVariants.{Num}
 use Rattle.wdf_base.specs.Lives.{is_live}
-use Rattle.wdf_model.specs.declared.entries.Node.{Node}
-use Rattle.wdf_model.specs.Tables.{entry}
 use Rattle.wdf_model.specs.Plans.{callback_irql}
-use Rattle.wdf_model.specs.parts.Tree.{life_of, nearest_device, nearest_devices, own_device}
+use Rattle.wdf_model.specs.parts.Tree.{life_of, nearest_device}
 use Rattle.wdf_model.specs.parts.Cpus.{frame_of, top}
 use Rattle.wdf_model.specs.parts.Locks.{lock_of_callback}
 use Rattle.wdf_model.specs.parts.Requests.{arrival_of, place_of}
@@ -45,8 +41,6 @@ use Rattle.wdf_model.specs.rules.Calls.{outcome, second_deeds}
 use Rattle.wdf_model.specs.rules.Starts.{effect, effect_for, end_of_step, handle_id, new_frame, next_number, release_if_any, stage_effect, start_effect, take_if_any}
 use Rattle.wdf_model.specs.rules.Posts.{arrival_info, arrival_place, cancel_at, cancel_deeds, in_reach, post_deeds}
 use Rattle.wdf_model.specs.rules.Steps.{answered, at_next, deeds, did_deeds, goes_on, result_of, spending, stepped, waiting, waiting_deeds, with_answer, woke_deeds}
-use Rattle.wdf_model.proofs.Counts.{one_or_two}
-use Rattle.wdf_model.proofs.Maps.{entry_before, entry_last}
 use Rattle.law_machine_lives.proofs.Lists.{each_behind}
 use Rattle.wdf_model.specs.rules.Room.{AreDoable}
 use Rattle.wdf_trace.specs.Events.{IsCallOf, IsEventOf, IsHandleOf, IsOptionalOf, IsPostOf, IsValueOf}
@@ -58,26 +52,9 @@ use Rattle.law_lines.proofs.Intents.{IsIntentOf, intent_is_of}
 use Rattle.law_lines.proofs.ByDeeds.{AllTellOf, TellsOf, value_set, zeros}
 use Rattle.law_lines.proofs.Outcomes.{outcome_of, second_tells}
 use Rattle.law_lines.proofs.FrameEvents.{doable_front}
+use Rattle.law_machine_counts.proofs.Nearest.{nearest_below}
 
 -- ---- the nearest device of an object is below each bound that is above all ids
-
-either_below : (n : ℕ) (b : Bool) (x y : ℕ) → x < n → y < n → (if b then x else y) < n
-either_below n true x y h k = h
-either_below n false x y h k = k
-
-one_more : (n : ℕ) (before : List ℕ) (x : ℕ) → x < n → ((o : ℕ) → entry 1 before o < n) → (o : ℕ) → entry 1 (before ++ x ∷ []) o < n
-one_more n before x h each o = elim (one_or_two o (length before)) [
-  | inl e ↦ rw e (subst (λ y. y < n) (sym (entry_last 1 before x)) h)
-  | inr d ↦ subst (λ y. y < n) (sym (entry_before 1 before x o d)) (each o)
-]
-
-nearest_below : (n : ℕ) (before : List ℕ) (ns : List Node) → length before + length ns ≤ n → ((o : ℕ) → entry 1 before o < n) → (o : ℕ) → entry 1 (nearest_devices before ns) o < n
-nearest_below n before [] fits each o = each o
-nearest_below n before (m ∷ ns) fits each o =
-    let x : ℕ = own_device before (length before) m in
-    let here : length before < n = omega (arith, fits) in
-    let long : length (before ++ x ∷ []) ≡ length before + 1 = length-append before (x ∷ []) in
-    nearest_below n (before ++ x ∷ []) ns (omega (arith, fits, long)) (one_more n before x (either_below n (same_kind m.kind kind.Device) (length before) (entry 1 before m.parent.0) here (each m.parent.0)) each) o
 
 -- ---- frames that go on
 

@@ -1,18 +1,12 @@
 -- What a frame does is an event of the plan.
 use Rattle.std.proofs.Common.{if◌then◌else◌, ◌≡◌, ℕ, ◌<◌, ◌^◌, Bool, true, false, List, [], ◌∷◌, ◌++◌, Option, Some, None, is_some, refl, sym, ap, subst}
-use Rattle.std.proofs.Common.{rules}
-use Rattle.std.specs.Bool.{Decides}
 use Rattle.wdf_base.specs.Meaning.{Meaning}
-use Rattle.wdf_base.specs.Same.{same_access, same_event, same_fault, same_option}
+use Rattle.wdf_base.specs.Same.{same_event, same_option}
 use Rattle.wdf_base.specs.declared.plan.Plan.{Plan}
-use Rattle.wdf_base.specs.declared.ids.Cpu.{Cpu}
 use Rattle.wdf_base.specs.declared.call.Call.{Call}
-use Rattle.wdf_base.specs.declared.event.Access.{Access}
-use Rattle.wdf_base.specs.declared.event.Access.TheVariants as access
 use Rattle.wdf_base.specs.declared.event.Event.{Event}
 use Rattle.wdf_base.specs.declared.event.Event.TheVariants as event
 use Rattle.wdf_base.specs.declared.event.Fault.{Fault}
-use Rattle.wdf_base.specs.declared.event.Fault.TheVariants as fault
 use Rattle.wdf_base.specs.declared.frame.Frame.{Frame}
 use Rattle.wdf_base.specs.declared.frame.Intent.{Intent}
 use Rattle.wdf_base.specs.declared.frame.Intent.TheVariants as intent
@@ -30,8 +24,7 @@ use Rattle.wdf_model.specs.rules.Faults.{fault_of}
 use Rattle.wdf_model.specs.rules.Calls.{is_met, is_met_then, outcome, second_deeds}
 use Rattle.wdf_model.specs.rules.Starts.{shown}
 use Rattle.wdf_model.specs.rules.Steps.{deeds, did_deeds, event_of_frame, event_of_top, fault_event, intent_event, may, own_event, spends, view_of}
-use Rattle.wdf_model.proofs.Sames.{cpu_same, did_same, end_same, value_same, waiting_same, woke_same}
-use Rattle.wdf_model.proofs.Tests.{both_left, both_right}
+use Rattle.wdf_model.proofs.Sames.{did_same, end_same, waiting_same, woke_same}
 use Rattle.law_machine_lives.proofs.Lists.{inside}
 use Rattle.wdf_model.specs.rules.Room.{AreDoable}
 use Rattle.wdf_trace.specs.Events.{IsCallOf, IsEventOf}
@@ -40,6 +33,7 @@ use Rattle.law_lines.specs.Fitting.{HasFittingNumbers}
 use Rattle.law_lines.specs.Values.{HasPlanValues, IsPendingOf}
 use Rattle.law_lines.proofs.Intents.{IsIntentOf, intent_is_of, line_small}
 use Rattle.law_lines.proofs.Outcomes.{outcome_of}
+use Rattle.law_machine_counts.proofs.Sames.{fault_same, local_same, log_same, register_same, spend_same}
 
 -- ---- deeds one after another
 
@@ -61,65 +55,6 @@ is_of_frame (event.Woke cpu c v) = true
 is_of_frame (event.End cpu c o v) = true
 is_of_frame (event.Fault cpu x line) = true
 is_of_frame _ = false
-
-access_decides : (a c : Access) → Decides (same_access a c) (a ≡ c)
-access_decides a c = search rules
-
-fault_decides : (a c : Fault) → Decides (same_fault a c) (a ≡ c)
-fault_decides a c = search rules
-
-local_by_parts : (l k : Cpu) (n line : ℕ) → l.0 ≡ k.0 → n ≡ line → event.Local l n ≡ event.Local k line
-local_by_parts l k n line x y = let e : l ≡ k = cpu_same l k x in cc
-
-local_same : (e : Event) (k : Cpu) (line : ℕ) → same_event e (event.Local k line) ≡ true → e ≡ event.Local k line
-local_same (event.Local l n) k line h =
-    let x : l.0 ≡ k.0 = search (rules, both_left) in
-    let y : n ≡ line = search (rules, both_right) in
-    local_by_parts l k n line x y
-local_same _ k line h = absurd (let z : ⊥ = cc in z)
-
-log_by_parts : (l k : Cpu) (w v : Value) → l.0 ≡ k.0 → w ≡ v → event.Log l w ≡ event.Log k v
-log_by_parts l k w v x y = let e : l ≡ k = cpu_same l k x in cc
-
-log_same : (e : Event) (k : Cpu) (v : Value) → same_event e (event.Log k v) ≡ true → e ≡ event.Log k v
-log_same (event.Log l w) k v h =
-    let x : l.0 ≡ k.0 = search (rules, both_left) in
-    let y : w ≡ v = value_same w v (search both_right) in
-    log_by_parts l k w v x y
-log_same _ k v h = absurd (let z : ⊥ = cc in z)
-
-spend_by_parts : (l k : Cpu) (i n : ℕ) → l.0 ≡ k.0 → i ≡ n → event.Spend l i ≡ event.Spend k n
-spend_by_parts l k i n x y = let e : l ≡ k = cpu_same l k x in cc
-
-spend_same : (e : Event) (k : Cpu) (n : ℕ) → same_event e (event.Spend k n) ≡ true → e ≡ event.Spend k n
-spend_same (event.Spend l i) k n h =
-    let x : l.0 ≡ k.0 = search (rules, both_left) in
-    let y : i ≡ n = search (rules, both_right) in
-    spend_by_parts l k i n x y
-spend_same _ k n h = absurd (let z : ⊥ = cc in z)
-
-register_by_parts : (l k : Cpu) (b a : Access) (s r i n : ℕ) → l.0 ≡ k.0 → b ≡ a → s ≡ r → i ≡ n → event.Register l b s i ≡ event.Register k a r n
-register_by_parts l k b a s r i n x y z w = let e : l ≡ k = cpu_same l k x in cc
-
-register_same : (e : Event) (k : Cpu) (a : Access) (r n : ℕ) → same_event e (event.Register k a r n) ≡ true → e ≡ event.Register k a r n
-register_same (event.Register l b s i) k a r n h =
-    let x : l.0 ≡ k.0 = search (rules, both_left, both_right) in
-    let y : b ≡ a = (access_decides b a).0 (search (both_left, both_right)) in
-    let z : s ≡ r = search (rules, both_left, both_right) in
-    let w : i ≡ n = search (rules, both_left, both_right) in
-    register_by_parts l k b a s r i n x y z w
-register_same _ k a r n h = absurd (let z : ⊥ = cc in z)
-
-fault_by_parts : (l k : Cpu) (b a : Fault) (i n : ℕ) → l.0 ≡ k.0 → b ≡ a → i ≡ n → event.Fault l b i ≡ event.Fault k a n
-fault_by_parts l k b a i n x y z = let e : l ≡ k = cpu_same l k x in cc
-
-fault_same : (e : Event) (k : Cpu) (a : Fault) (n : ℕ) → same_event e (event.Fault k a n) ≡ true → e ≡ event.Fault k a n
-fault_same (event.Fault l b i) k a n h =
-    let x : l.0 ≡ k.0 = search (rules, both_left, both_right) in
-    let y : b ≡ a = (fault_decides b a).0 (search (both_left, both_right)) in
-    let z : i ≡ n = search (rules, both_left, both_right) in
-    fault_by_parts l k b a i n x y z
-fault_same _ k a n h = absurd (let z : ⊥ = cc in z)
 
 -- what is found is the event
 found_is : (found : Option Event) (e : Event) → ((x : Event) → same_event x e ≡ true → x ≡ e) → same_option same_event found (Some e) ≡ true → found ≡ Some e

@@ -1,5 +1,5 @@
 -- What a frame is about to do gives values, calls, registers and lines of the plan.
-use Rattle.std.proofs.Common.{if◌then◌else◌, ◌≡◌, ℕ, zero, suc, ◌-◌, ◌==◌, ◌<◌, ◌≤◌, ◌^◌, Bool, true, false, nat_le, nat_lt, List, [], ◌∷◌, length, Option, Some, None, option_map, unwrap_or, slice_get, refl, sym, subst, arith}
+use Rattle.std.proofs.Common.{if◌then◌else◌, ◌≡◌, ℕ, ◌-◌, ◌==◌, ◌<◌, ◌≤◌, ◌^◌, Bool, true, false, nat_le, nat_lt, length, Option, Some, None, option_map, unwrap_or, slice_get, refl, sym, subst, arith}
 use Rattle.std.specs.List.{list_all}
 use Rattle.std.proofs.lemmas.Bool.{leb-true, ltb-true}
 use Rattle.std.proofs.lemmas.Option.{slice_get_within}
@@ -9,7 +9,6 @@ use Rattle.wdf_base.specs.Plan.{script_statements}
 use Rattle.wdf_base.specs.Resolved.{IsResolved, act_fits, arg_fits, script_fits, statement_fits}
 use Rattle.wdf_base.specs.Same.{same_kind, same_option}
 use Rattle.wdf_base.specs.declared.plan.Plan.{Plan}
-use Rattle.wdf_base.specs.declared.call.Arg.TheVariants.{Class}
 use Rattle.wdf_base.specs.declared.call.CallKind.{CallKind}
 use Rattle.wdf_base.specs.declared.call.CallKind.TheVariants as call
 use Rattle.wdf_base.specs.declared.declared.ClassInfo.{ClassInfo}
@@ -27,7 +26,6 @@ use Rattle.wdf_base.specs.declared.script.Script.{Script}
 use Rattle.wdf_base.specs.declared.script.Statement.{Statement}
 use Rattle.wdf_base.specs.declared.signature.Sort.{Sort}
 use Rattle.wdf_base.specs.declared.signature.Sort.TheVariants as sort
-use Rattle.wdf_base.specs.declared.value.Status.TheVariants as status
 use Rattle.wdf_base.specs.declared.value.Value.{Value}
 use Rattle.wdf_base.specs.declared.value.Value.TheVariants.{Num, Obj, Stat}
 use Rattle.wdf_model.specs.rules.Script.{act_intent, arg_of, call_of, if_intent, intent_at, intent_of, let_intent, line_of, line_of_statement, log_intent, put_intent, repeat_intent, return_intent, spend_intent, statement_at, value_of}
@@ -36,6 +34,7 @@ use Rattle.wdf_trace.specs.Events.{IsArgumentOf, IsCallOf, IsValueOf}
 use Rattle.law_lines.specs.Fitting.{HasFittingNumbers}
 use Rattle.law_lines.specs.Values.{HasFrameValues}
 use Rattle.law_lines.proofs.Expressions.{IsResultOf, result_of}
+use Rattle.law_machine_lives.proofs.Lists.{all_at}
 
 -- ---- what an intent gives
 
@@ -134,11 +133,6 @@ call_is_of plan f each k a b c x y z =
     )
 
 -- ---- statements
-
-all_at : {T : Type 0} (p : T → Bool) (xs : List T) (k : ℕ) (x : T) → list_all p xs ≡ true → slice_get xs k ≡ Some x → p x ≡ true
-all_at p [] k x h at = absurd (let z : ⊥ = cc in z)
-all_at p (y ∷ ys) zero x h at = let same : y ≡ x = cc in subst (λ z. p z ≡ true) same (both_left (p y) (list_all p ys) h)
-all_at p (y ∷ ys) (suc k) x h at = all_at p ys k x (both_right (p y) (list_all p ys) h) at
 
 -- what is so of a statement of a callback
 record IsStatementOf (plan : Plan) (s : Statement) : Type 0 where

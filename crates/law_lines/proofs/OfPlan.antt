@@ -2,16 +2,13 @@
 use Rattle.std.proofs.Common.{◌≡◌, ℕ, ◌+◌, ◌==◌, ◌<◌, ◌≤◌, ◌^◌, true, false, ◌&&◌, List, ◌++◌, inl, inr, Option, Some, None, length, count_by, nat_le, slice_get, refl, sym, subst, arith}
 use Rattle.std.specs.List.{flat_map}
 use Rattle.std.proofs.lemmas.Bool.{and_parts, leb-true, ltb-true}
-use Rattle.std.specs.Bool.{Decides}
-use Rattle.std.proofs.Common.{rules, ap, is_some, ◌∙◌}
+use Rattle.std.proofs.Common.{is_some}
 use Rattle.wdf_base.specs.declared.event.Stage.{Stage}
 use Rattle.wdf_base.specs.declared.event.Stage.TheVariants as stage
-use Rattle.wdf_base.specs.declared.event.Step.{Step}
 use Rattle.wdf_base.specs.declared.event.Step.TheVariants as step
-use Rattle.wdf_base.specs.Same.{same_handle, same_option, same_stage, same_step}
+use Rattle.wdf_base.specs.Same.{same_option, same_step}
 use Rattle.wdf_model.specs.parts.Pnp.{next_step}
 use Rattle.wdf_model.specs.rules.Starts.{may_pass, stage_effect}
-use Rattle.wdf_model.proofs.Sames.{handle_decides}
 use Rattle.law_machine_once.specs.Owned.{IsStepOf, StepsOwned}
 use Rattle.law_machine_once.proofs.Steps.{steps_owned_at_each}
 use Rattle.wdf_base.specs.Stages.{is_for_interrupt}
@@ -54,6 +51,7 @@ use Rattle.law_lines.specs.Framework.{is_of_framework}
 use Rattle.law_lines.proofs.ProperNames.{proper_name}
 use Rattle.law_machine_counts.proofs.StepTable.{top_is}
 use Rattle.wdf_model.proofs.FrameCounts.{parked_once}
+use Rattle.law_machine_counts.proofs.Sames.{pass_is}
 
 -- ---- bounds
 
@@ -80,23 +78,6 @@ pub record Bounded {A : Type 0} (plan : Plan) (S : State A) : Type 0 where
   pub owned : StepsOwned plan S
 
 -- ---- the stage that comes next
-
-stage_decides : (a c : Stage) → Decides (same_stage a c) (a ≡ c)
-stage_decides a c = search rules
-
-pub handle_is : (a c : Option Handle) → same_option same_handle a c ≡ true → a ≡ c
-handle_is None None h = refl
-handle_is None (Some c) h = absurd (let z : ⊥ = cc in z)
-handle_is (Some a) None h = absurd (let z : ⊥ = cc in z)
-handle_is (Some a) (Some c) h = ap (λ x. Some x) ((handle_decides a c).0 h)
-
-pass_is : (x : Option Step) (s : Stage) (i : Option Handle) → same_option same_step x (Some (step.Pass s i)) ≡ true → x ≡ Some (step.Pass s i)
-pass_is None s i h = absurd (let z : ⊥ = cc in z)
-pass_is (Some (step.Run c j)) s i h = absurd (let z : ⊥ = cc in z)
-pass_is (Some (step.Pass t j)) s i h =
-    let one : t ≡ s = (stage_decides t s).0 (both_left (same_stage t s) (same_option same_handle j i) h) in
-    let two : j ≡ i = handle_is j i (both_right (same_stage t s) (same_option same_handle j i) h) in
-    ap (λ x. Some (step.Pass x j)) one ∙ ap (λ x. Some (step.Pass s x)) two
 
 module _ {A : Type 0} (plan : Plan) (m : Meaning A) (S : State A) (b : Bounded plan S) where
   pub objects_few : (o : ℕ) → o < length S.tree.nodes → o < 2 ^ 32

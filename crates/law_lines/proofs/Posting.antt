@@ -37,7 +37,8 @@ use Rattle.law_machine_room.proofs.DoableRuns.{ready_doable}
 use Rattle.wdf_trace.specs.Events.{IsActionOf, IsEventOf, IsHandleOf, IsOptionalOf, IsPostOf}
 use Rattle.law_lines.specs.PostNumbers.{ActionNumbersFit, PostNumbersFit}
 use Rattle.law_lines.proofs.ProperNames.{at_id, handle_name, proper_name, some_name}
-use Rattle.law_lines.proofs.OfPlan.{Bounded, bounded, few_declared, handle_is, requests_few}
+use Rattle.law_lines.proofs.OfPlan.{Bounded, bounded, few_declared, requests_few}
+use Rattle.law_machine_counts.proofs.Sames.{option_handle_is}
 
 -- ---- handles of declared objects
 
@@ -119,7 +120,7 @@ module _ {A : Type 0} (plan : Plan) (m : Meaning A) (S : State A) (b : Bounded p
   posted_of_plan : (agent : ℕ) (p : Post) (a : Option Handle) → PostNumbersFit p → may plan m S (event.Posted agent p a) ≡ true → AreDoable plan (deeds plan S (event.Posted agent p a)) S → IsEventOf plan (event.Posted agent p a)
   posted_of_plan agent p a fit h k =
       let two : (same_option same_post (due_of m S agent) (Some p) && post_fits plan S agent p) ≡ true = both_left (same_option same_post (due_of m S agent) (Some p) && post_fits plan S agent p) (same_option same_handle (post_answer plan S agent p) a) h in
-      let same : post_answer plan S agent p ≡ a = handle_is (post_answer plan S agent p) a (both_right (same_option same_post (due_of m S agent) (Some p) && post_fits plan S agent p) (same_option same_handle (post_answer plan S agent p) a) h) in
+      let same : post_answer plan S agent p ≡ a = option_handle_is (post_answer plan S agent p) a (both_right (same_option same_post (due_of m S agent) (Some p) && post_fits plan S agent p) (same_option same_handle (post_answer plan S agent p) a) h) in
       let there = due_by m S.agents agent (slice_get S.agents agent) p refl (both_left (same_option same_post (due_of m S agent) (Some p)) (post_fits plan S agent p) two) in
       let size = b.room.sizes.agents in
       let inside : agent ≤ length plan.agents = omega (arith, there, size) in

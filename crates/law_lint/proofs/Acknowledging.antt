@@ -41,13 +41,13 @@ use Rattle.wdf_lint.specs.Walks.{IsClean}
 use Rattle.law_lint.proofs.Acting.{calling, on_it, own_argument, zero_argument}
 use Rattle.law_lint.proofs.Calming.{calms_by, one_on_queue}
 use Rattle.law_lint.proofs.Dids.{CalmHere, did_stands, has_ways}
-use Rattle.law_lint.proofs.Events.{top_there}
 use Rattle.law_lint.proofs.Faults.{Calls, calls, rule_off}
 use Rattle.law_lint.proofs.Flags.{AllAskDeeds, FlagsKept}
 use Rattle.law_lint.proofs.Others.{all_apart, deeds_later, is_owners}
 use Rattle.law_lint.proofs.Owning.{Guarded, Stopping, has_origin}
 use Rattle.law_lint.proofs.Resting.{AllCalm, deeds_flags}
 use Rattle.law_lint.proofs.Stands.{FrameStands, Stands}
+use Rattle.law_machine_lives.proofs.ReasonsOfEvents.{top_on}
 
 -- ---- the rule
 
@@ -117,7 +117,7 @@ module _ {A : Type 0} (plan : Plan) (m : Meaning A) (S : State A) (k : Cpu) (c :
   f = did.frame
 
   there : 1 ≤ on S.cpus f
-  there = top_there S.cpus k.0 f did.about.top
+  there = top_on S.cpus k.0 f did.about.top
 
   pub stop_call_here : StopCall plan S f (st.states f) c
   stop_call_here = stop_call plan S k.0 f (st.states f) c clean (st.stands f there) did.about.about stops

@@ -21,7 +21,7 @@ use Rattle.wdf_model.specs.parts.Power.{opening_power}
 use Rattle.wdf_model.specs.State.{State, opening}
 use Rattle.wdf_model.specs.declared.deed.Deed.{Deed}
 use Rattle.wdf_model.specs.declared.deed.Deed.TheVariants.{SendRequest}
-use Rattle.wdf_model.specs.rules.Deeds.{do_deed, do_deeds}
+use Rattle.wdf_model.specs.rules.Deeds.{do_deeds}
 use Rattle.wdf_model.specs.rules.Script.{intent_of, statement_at}
 use Rattle.wdf_model.specs.rules.Steps.{after, deeds, may}
 use Rattle.wdf_model.proofs.Runs.{run_opens}
@@ -34,7 +34,7 @@ use Rattle.law_machine_deeds.proofs.Passing.{event_passes}
 use Rattle.law_machine_counts.proofs.HeldByDeeds.{deeds_hold}
 use Rattle.law_machine_counts.proofs.HeldOverRuns.{holds_at_each}
 use Rattle.law_machine_counts.proofs.Holding.{HoldsIn}
-use Rattle.law_machine_counts.proofs.PowerQueues.{deed_queues}
+use Rattle.law_machine_counts.proofs.PowerQueues.{deeds_queues}
 use Rattle.law_free_runs.proofs.FreeStates.{FreeState}
 use Rattle.law_free_runs.proofs.Places.{first_state}
 use Rattle.law_free_stops.proofs.Stops.{FreeStops, event_stops, opening_stops, tick_stops}
@@ -42,17 +42,14 @@ use Rattle.wdf_lint.specs.Abstracts.{is_send, plan_sends}
 use Rattle.law_lint.proofs.Faults.{Calls}
 use Rattle.law_lint.proofs.Faults as faults
 use Rattle.law_lint.proofs.Unsent.{NoneSent, deeds_none, is_sending, none_opens}
+use Rattle.std.proofs.Math.Bool.{or-true}
 
 -- ---- a call is of a statement of the plan
-
-or_true : (b : Bool) → (b || true) ≡ true
-or_true true = refl
-or_true false = refl
 
 any_at : {T : Type 0} (p : T → Bool) (xs : List T) (k : ℕ) (x : T) → slice_get xs k ≡ Some x → p x ≡ true → list_any p xs ≡ true
 any_at p [] k x h is = absurd (let z : ⊥ = cc in z)
 any_at p (y ∷ ys) zero x h is = let same : y ≡ x = cc in ap (λ b. b || list_any p ys) (ap p same ∙ is)
-any_at p (y ∷ ys) (suc k) x h is = ap (λ b. p y || b) (any_at p ys k x h is) ∙ or_true (p y)
+any_at p (y ∷ ys) (suc k) x h is = ap (λ b. p y || b) (any_at p ys k x h is) ∙ or-true (p y)
 
 -- the statement of a frame is in its plan
 pub in_plan : (p : Act → Bool) (plan : Plan) (f : Frame) (s : Statement) → statement_at plan f ≡ Some s → p s.act ≡ true → list_any (λ (t : Script). list_any (λ (x : Statement). p x.act) t.statements) plan.scripts ≡ true
@@ -85,10 +82,6 @@ pub record Around {A : Type 0} (plan : Plan) (S : State A) : Type 0 where
   pub queues : S.power.queues ≡ (opening_power plan).queues
   pub stops : IsResolved plan → FreeStops plan S
   pub unsent : plan_sends plan ≡ false → NoneSent S.targets
-
-deeds_queues : {A : Type 0} (plan : Plan) (ds : List Deed) (S : State A) → (do_deeds plan ds S).power.queues ≡ S.power.queues
-deeds_queues plan [] S = refl
-deeds_queues plan (d ∷ ds) S = deeds_queues plan ds (do_deed plan d S) ∙ deed_queues plan d S
 
 pub around_opening : {A : Type 0} (plan : Plan) (m : Meaning A) → FreeState plan (opening plan m) → Around plan (opening plan m)
 around_opening {A} plan m free = record {

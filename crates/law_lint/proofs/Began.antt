@@ -1,6 +1,6 @@
 -- A frame's script is that of its callback, and belongs to its object.
 use Rattle.std.proofs.Common.{◌≡◌, ℕ, zero, suc, ◌+◌, ◌==◌, ◌<◌, Bool, true, false, not, ◌&&◌, nat_lt, List, [], ◌∷◌, ◌++◌, drop, filter_map, length, map, option_map, position, Option, Some, None, is_some, slice_get, unwrap_or, refl, sym, ap, subst, ◌∙◌, arith, get_or}
-use Rattle.std.specs.List.{list_all, list_any, position_or_len}
+use Rattle.std.specs.List.{list_any, position_or_len}
 use Rattle.std.proofs.lemmas.Bool.{eqb-true}
 use Rattle.std.proofs.lemmas.Bool.Decides.{nat_tests}
 use Rattle.std.proofs.lemmas.Option.{slice_get_within, slice_get-get_or}
@@ -8,12 +8,8 @@ use Rattle.wdf_base.specs.declared.plan.Plan.{Plan}
 use Rattle.wdf_base.specs.declared.object.Kind.{Kind}
 use Rattle.wdf_base.specs.declared.object.Kind.TheVariants as kind
 use Rattle.wdf_base.specs.declared.call.Callback.{Callback}
-use Rattle.wdf_base.specs.declared.declared.ClassInfo.{ClassInfo}
-use Rattle.wdf_base.specs.declared.declared.ClassInfo.TheVariants as class
 use Rattle.wdf_base.specs.declared.declared.Declared.{Declared}
 use Rattle.wdf_base.specs.declared.declared.Declared.TheVariants as declared
-use Rattle.wdf_base.specs.declared.declared.DeferredKind.TheVariants as deferred
-use Rattle.wdf_base.specs.declared.declared.PlainKind.TheVariants as plain
 use Rattle.wdf_base.specs.declared.declared.QueueInfo.{QueueInfo}
 use Rattle.wdf_base.specs.declared.declared.Scope.{Scope}
 use Rattle.wdf_base.specs.declared.declared.Scope.TheVariants as scope
@@ -22,10 +18,10 @@ use Rattle.wdf_base.specs.declared.rank.Owner.{Owner}
 use Rattle.wdf_base.specs.declared.rank.Owner.TheVariants as owner
 use Rattle.wdf_base.specs.declared.script.Script.{Script}
 use Rattle.wdf_base.specs.Callbacks.{row_of}
-use Rattle.wdf_base.specs.Kinds.{class_kind, declared_name, class_name}
+use Rattle.wdf_base.specs.Kinds.{declared_name, class_name}
 use Rattle.wdf_base.specs.Plan.{declared_of, is_script_of}
 use Rattle.wdf_base.specs.Resolved.{IsResolved, all_differ, owner_fits, script_fits, agent_name, apps, objects_in_order, register_name}
-use Rattle.wdf_base.specs.Same.{same_callback, same_kind, same_option, same_irql, same_object_id}
+use Rattle.wdf_base.specs.Same.{same_callback, same_kind, same_irql, same_object_id}
 use Rattle.wdf_base.specs.SamePlan.{same_declared, same_queue, same_scope}
 use Rattle.wdf_model.specs.declared.entries.Node.{Node}
 use Rattle.wdf_model.specs.Plans.{script_on, as_interrupt}
@@ -41,6 +37,8 @@ use Rattle.wdf_model.proofs.Counts.{equal}
 use Rattle.std.proofs.lemmas.List.{append_assoc}
 use Rattle.wdf_base.specs.declared.ids.Handle.{Handle}
 use Rattle.std.proofs.lemmas.List.Quantifiers.{position-Some}
+use Rattle.law_machine_lives.proofs.Lists.{all_at}
+use Rattle.law_machine_lives.proofs.LevelCalls.{class_unlike}
 
 -- a declared queue whose scope keeps its callbacks apart
 pub record Scoped (plan : Plan) (o : ℕ) : Type 0 where
@@ -143,16 +141,6 @@ one_name f (w ∷ xs) ys h (suc j) (suc k) n x y a b p q = ap suc (one_name f xs
 abbrev IsNamed : Declared → ℕ → Type 0
 IsNamed d n = declared_name d ≡ Some n
 
-class_unlike : (o : Option ClassInfo) → same_option same_kind (option_map class_kind o) (Some kind.Interrupt) ≡ true → ⊥
-class_unlike None h = let z : ⊥ = cc in z
-class_unlike (Some (class.Plain n plain.Object)) h = let z : ⊥ = cc in z
-class_unlike (Some (class.Plain n plain.SpinLock)) h = let z : ⊥ = cc in z
-class_unlike (Some (class.Plain n plain.WaitLock)) h = let z : ⊥ = cc in z
-class_unlike (Some (class.Plain n plain.Request)) h = let z : ⊥ = cc in z
-class_unlike (Some (class.Deferred n deferred.Dpc p s q)) h = let z : ⊥ = cc in z
-class_unlike (Some (class.Deferred n deferred.Timer p s q)) h = let z : ⊥ = cc in z
-class_unlike (Some (class.Deferred n deferred.WorkItem p s q)) h = let z : ⊥ = cc in z
-
 fits_interrupt : (plan : Plan) (d : Declared) → owner_fits plan (owner.Of kind.Interrupt) d ≡ true → (i : InterruptInfo) × (d ≡ declared.Interrupt i)
 fits_interrupt plan (declared.Interrupt i) h = (i, refl)
 fits_interrupt plan (declared.OfClass c) h = absurd (class_unlike (slice_get plan.classes c) h)
@@ -235,11 +223,6 @@ FoundAt {T} p xs k = (x : T) × (slice_get xs k ≡ Some x) × (p x ≡ true)
 pub found_by : {T : Type 0} (p : T → Bool) (xs : List T) (k : ℕ) → position p xs ≡ Some k → FoundAt p xs k
 found_by p [] k h = absurd (let z : ⊥ = cc in z)
 found_by p (x ∷ xs) k h = let q = position-Some p (x ∷ xs) k x h in (get_or (x ∷ xs) k x, slice_get-get_or (x ∷ xs) k x q.0, q.1)
-
-all_at : {T : Type 0} (p : T → Bool) (xs : List T) (k : ℕ) (x : T) → list_all p xs ≡ true → slice_get xs k ≡ Some x → p x ≡ true
-all_at p [] k x h at = absurd (let z : ⊥ = cc in z)
-all_at p (y ∷ ys) zero x h at = let same : y ≡ x = cc in ap p (sym same) ∙ both_left (p y) (list_all p ys) h
-all_at p (y ∷ ys) (suc k) x h at = all_at p ys k x (both_right (p y) (list_all p ys) h) at
 
 owner_here : (plan : Plan) (k : ℕ) (s : Script) → slice_get plan.scripts k ≡ Some s → owner_of plan k ≡ s.owner
 owner_here plan k s at = ap (λ (o : Option Script). unwrap_or (option_map (λ (x : Script). x.owner) o) declared.Driver) at

@@ -35,7 +35,7 @@ use Rattle.wdf_model.specs.parts.Locks.{is_free_if_any, lock_of_callback}
 use Rattle.wdf_model.specs.parts.Queues.{front}
 use Rattle.wdf_model.specs.parts.Requests.{Requests, mark_of, moved, no_request, origin_from, origin_of, place_of, request_of, with_mark}
 use Rattle.wdf_model.specs.parts.Targets.{is_forgotten}
-use Rattle.wdf_model.specs.State.{State, declared_in, declares_in, held_at, is_held_from, is_proper, is_with_driver, script_in}
+use Rattle.wdf_model.specs.State.{State, declared_in, declares_in, is_held_from, is_proper, is_with_driver, script_in}
 use Rattle.wdf_model.specs.declared.deed.Deed.{Deed}
 use Rattle.wdf_model.specs.declared.deed.Deed.TheVariants.{PushFrame}
 use Rattle.wdf_model.specs.rules.Deeds.{do_deeds}
@@ -80,8 +80,10 @@ use Rattle.law_lint.proofs.Around.{Around}
 use Rattle.law_lint.proofs.Calming.{event_calms}
 use Rattle.law_lint.proofs.Flags.{AllAsked}
 use Rattle.law_lint.proofs.Owning.{From, Guarded, OwnAs, Stopping}
-use Rattle.law_lint.proofs.Starting.{begins_with, came_from, held_parts, origin_held, owned_held, stop_callback, stop_due, unasked}
+use Rattle.law_lint.proofs.Starting.{begins_with, came_from, held_parts, owned_held, stop_callback, stop_due, unasked}
 use Rattle.law_lint.proofs.Unsent.{none_there}
+use Rattle.law_machine_counts.proofs.Undone.{held_undone}
+use Rattle.law_machine_counts.proofs.StepTable.{top_is}
 
 -- ---- the script of a callback is one of that callback
 
@@ -173,14 +175,6 @@ cancel_got : (q : Request) (o : ℕ) → is_due q.info.mark ≡ true → same_id
 cancel_got q o d from s =
     let own : is_owned q.place ≡ true = s.armed (due_armed q.info.mark d).0 in
     record { undone = owned_undone q.place own; loose = due_loose q d; now = record { owned = own; off = refl; came = some_origin q.info.origin o from } }
-
-held_undone : (b : Bool) (p : Place) → held_at b p ≡ true → is_done p ≡ false
-held_undone b place.Owned h = refl
-held_undone b (place.Queued q) h = refl
-held_undone b (place.Returning q) h = refl
-held_undone b (place.Closing s) h = refl
-held_undone b (place.Sent t) h = refl
-held_undone b place.Done h = absurd (let z : ⊥ = cc in z)
 
 -- ---- a callback and its request
 
@@ -438,7 +432,7 @@ start_stands {A} plan m S k c o r h numbered state sane around asked st =
           has = due.1;
           calls = calls;
           owned = subst (λ (R : Requests). is_owned (place_of R q.id.0) ≡ true) (sym requests_now) (owned_held (is_forgotten S.targets q.id.0) (place_of S.requests q.id.0) held.1 unsent);
-          origin = subst (λ (R : Requests). origin_of R q.id.0 ≡ Some o.id.0) (sym requests_now) (origin_held (origin_of S.requests q.id.0) o.id.0 held.0);
+          origin = subst (λ (R : Requests). origin_of R q.id.0 ≡ Some o.id.0) (sym requests_now) (top_is (origin_of S.requests q.id.0) o.id.0 held.0);
           asked = ap (λ (y : Holding). y.stop_asked) here;
           fresh = λ e. ap (λ (y : Holding). y.acknowledged) here ∙ fresh;
         }

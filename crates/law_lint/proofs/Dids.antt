@@ -41,7 +41,7 @@ use Rattle.law_lint.proofs.Others.{event_later, is_owners_call}
 use Rattle.law_lint.proofs.Stands.{FrameGoes, FrameStands, InHand, Stands, goes_stands, is_on_request, reaches, stays_later}
 use Rattle.law_lint.proofs.Calming.{event_calms}
 use Rattle.law_lint.proofs.Owning.{Calms, grip_later, hand_before, own_answered}
-use Rattle.law_lint.proofs.Events.{answered_rest, goes_on_frames, top_there, told}
+use Rattle.law_lint.proofs.Events.{answered_rest, goes_on_frames, told}
 use Rattle.law_lint.proofs.Faults.{Calls, calls, rule_off}
 use Rattle.law_lint.proofs.Answers.{CallWent, call_went}
 use Rattle.wdf_base.specs.declared.event.Fault.TheVariants as fault
@@ -54,6 +54,7 @@ use Rattle.law_lint.proofs.Holdings.{Left, event_left}
 use Rattle.law_lint.proofs.Locking.{Locked, Names, OfKind, did_locks, names, of_kind, woke_locks}
 use Rattle.law_lint.proofs.Frames.{Simulates}
 use Rattle.wdf_model.proofs.FrameCounts.{on}
+use Rattle.law_machine_lives.proofs.ReasonsOfEvents.{top_on}
 
 -- ---- deeds that touch no frame, and then a frame goes on
 
@@ -205,7 +206,7 @@ did_stands {A} plan m S k c v free clean off h later st calm =
     let d : IsDid plan S k.0 c v = did_tells plan m S k c v h in
     let f = d.frame in
     let ds : List Deed = (outcome plan S k.0 f c).deeds ++ second_deeds f c in
-    let there : 1 ≤ on S.cpus f = top_there S.cpus k.0 f d.about.top in
+    let there : 1 ≤ on S.cpus f = top_on S.cpus k.0 f d.about.top in
     let same : deeds plan S (event.Did k c v) ≡ ds ++ GoOn (frame_id f) (answered plan (frame_of S.cpus f) v) ∷ [] = by_its_top S k.0 f (did_deeds plan S k.0 c v) d.about.top in
     let fit : all_fit plan (deeds plan S (event.Did k c v)) S ≡ true = event_fits plan m S (event.Did k c v) h in
     let still : all_still ds ≡ true = none_behind (outcome plan S k.0 f c).deeds (second_deeds f c) (outcome_none plan S k.0 f c) (second_none f c) in
@@ -259,7 +260,7 @@ plain_stands plan m S k c v clean off none h free st =
     did_stands plan m S k c v free clean off h (λ x old. event_later plan S (event.Did k c v) x none (event_fits plan m S (event.Did k c v) h) free.places old) st (
     let d : IsDid plan S k.0 c v = did_tells plan m S k c v h in
     let frame : Frame = frame_of S.cpus d.frame in
-    let there : 1 ≤ on S.cpus d.frame = top_there S.cpus k.0 d.frame d.about.top in
+    let there : 1 ≤ on S.cpus d.frame = top_on S.cpus k.0 d.frame d.about.top in
     let s : Calls plan frame (statement_at plan frame) c = calls plan frame c d.about.about in
     let kind : c.kind ≡ s.kind = ap (λ (q : Call). q.kind) s.call in
     calm_plain plan S _ d.frame st there s.kind (node_of plan s.x) (no_owners s.kind (sym (ap is_owners_call kind) ∙ none)) calm)
@@ -275,7 +276,7 @@ pub woke_stands : {A : Type 0} (plan : Plan) (m : Meaning A) (S : State A) (k : 
 woke_stands {A} plan m S k c v clean h free st =
     let d : IsWoke S k.0 c v = woke_tells plan m S k c v h in
     let f = d.frame in
-    let there : 1 ≤ on S.cpus f = top_there S.cpus k.0 f d.top in
+    let there : 1 ≤ on S.cpus f = top_on S.cpus k.0 f d.top in
     let w = (st.stands f there).waits (record { call = c; answer = v }) d.waits in
     let same : deeds plan S (event.Woke k c v) ≡ second_deeds f c ++ GoOn (frame_id f) (answered plan (frame_of S.cpus f) v) ∷ [] = by_its_top S k.0 f (woke_deeds plan c v) d.top in
     let fit : all_fit plan (deeds plan S (event.Woke k c v)) S ≡ true = event_fits plan m S (event.Woke k c v) h in

@@ -1,5 +1,5 @@
 -- The invariant over events inside a frame.
-use Rattle.std.proofs.Common.{if◌then◌else◌, ◌≡◌, ℕ, ◌==◌, ◌≤◌, Bool, true, false, ◌&&◌, ◌||◌, [], ◌∷◌, Option, Some, None, nat_lt, refl, sym, ap, subst, ◌∙◌, arith}
+use Rattle.std.proofs.Common.{if◌then◌else◌, ◌≡◌, ℕ, ◌==◌, Bool, true, false, ◌&&◌, ◌||◌, [], ◌∷◌, Option, Some, None, nat_lt, refl, sym, ap, subst, ◌∙◌}
 use Rattle.wdf_base.specs.Meaning.{Meaning}
 use Rattle.wdf_base.specs.declared.plan.Plan.{Plan}
 use Rattle.wdf_base.specs.declared.ids.Cpu.{Cpu}
@@ -18,11 +18,10 @@ use Rattle.wdf_base.specs.declared.frame.Change.TheVariants as change
 use Rattle.wdf_base.specs.declared.frame.Pending.{Pending}
 use Rattle.wdf_base.specs.declared.frame.Intent.{Intent}
 use Rattle.wdf_base.specs.declared.frame.Intent.TheVariants as intent
-use Rattle.wdf_base.specs.Same.{same_access, same_cpu, same_event, same_option}
+use Rattle.wdf_base.specs.Same.{same_access, same_cpu, same_event}
 use Rattle.wdf_model.specs.declared.entries.Running.{Running}
 use Rattle.wdf_model.specs.Ids.{cpu_of, frame_id}
-use Rattle.wdf_model.specs.Tables.{flag}
-use Rattle.wdf_model.specs.parts.Cpus.{Cpus, frame_of, no_frame, running, top}
+use Rattle.wdf_model.specs.parts.Cpus.{frame_of, no_frame, running, top}
 use Rattle.wdf_model.specs.State.{State}
 use Rattle.wdf_model.specs.declared.deed.Deed.TheVariants.{GoOn}
 use Rattle.wdf_model.specs.rules.Calls.{is_met, is_met_then, outcome}
@@ -31,15 +30,14 @@ use Rattle.wdf_model.specs.rules.Faults.{fault_of}
 use Rattle.wdf_model.specs.rules.Script.{intent_of, statement_at}
 use Rattle.wdf_model.specs.rules.Steps.{after, answered, at_next, by_top, changed, deeds, goes_on, result_of, spending, with_answer, event_of_frame, event_of_top, fault_event, intent_event, is_own_event, may, own_event, spends, stepped, view_of}
 use Rattle.wdf_model.proofs.Maps.{entry_put_other, entry_put_same}
-use Rattle.wdf_model.proofs.Counts.{equal}
 use Rattle.law_machine_base.proofs.FitsOfEvents.{by_its_top}
-use Rattle.law_machine_counts.proofs.FrameMoves.{pop_on}
 use Rattle.wdf_model.proofs.Tests.{both_left, both_right}
 use Rattle.wdf_lint.specs.Steps.{steps}
 use Rattle.law_lint.proofs.Began.{Alike, alike_itself, alike_then}
 use Rattle.law_lint.proofs.Frames.{IsPlain, Went, local_goes, plain_goes, register_goes, shape}
 use Rattle.law_lint.proofs.Stands.{FrameGoes, Stands, inside_stands}
-use Rattle.wdf_model.proofs.FrameCounts.{on}
+use Rattle.law_machine_lives.proofs.LevelEvents.{found_own}
+use Rattle.law_machine_lives.proofs.ReasonsOfEvents.{top_on}
 
 -- ---- what an own event says
 
@@ -96,10 +94,6 @@ goes_on_frames plan S f next = record {
 }
 
 -- ---- the events of a frame's own statements
-
-pub same_there : (found : Option Event) (e : Event) → same_option same_event found (Some e) ≡ true → (x : Event) × (found ≡ Some x) × (same_event x e ≡ true)
-same_there None e h = absurd (let z : ⊥ = cc in z)
-same_there (Some x) e h = (x, refl, h)
 
 abbrev access_shape : Access → ℕ
 access_shape access.Read = 3
@@ -163,12 +157,8 @@ acts_by plan m S cpu x n s low (Does i a clean e) = (i, a, sym (intent_shape pla
 acts_of : {A : Type 0} (plan : Plan) (m : Meaning A) (S : State A) (k : Cpu) (e : Event) (n : ℕ) → ((x : Event) → same_event x e ≡ true → shown_shape x ≡ n) → nat_lt n 7 ≡ true → is_own_event plan m S k e ≡ true
     → (i : Intent) × Acts plan S k.0 i × (shape i ≡ n)
 acts_of plan m S k e n shows low h =
-    let found = same_there (own_event plan m S k.0) e h in
+    let found = found_own (own_event plan m S k.0) e h in
     acts_by plan m S k.0 found.0 n (shows found.0 found.2) low (owns plan m S k.0 found.0 found.1)
-
--- the top frame is there
-pub top_there : (C : Cpus) (cpu f : ℕ) → top C cpu ≡ Some f → 1 ≤ on C f
-top_there C cpu f t = let e = pop_on C cpu f t f in let one : flag (f == f) ≡ 1 = ap flag (equal f f refl) in omega arith
 
 pub told : {A : Type 0} (plan : Plan) (m : Meaning A) (e : Event) (S : State A) → Stands plan S → Stands plan (counted m e S)
 told plan m e S st = record { states = st.states; stands = λ f more. let k = st.stands f more in record { reached = k.reached; simulates = k.simulates; grips = k.grips; has = k.has; waits = k.waits; locks = k.locks; began = k.began; own = k.own }; off = st.off; alone = λ f g x ft gt fg gg. st.alone f g x ft gt (record { request = fg.request; has = fg.has; same = fg.same; in_hand = fg.in_hand }) (record { request = gg.request; has = gg.has; same = gg.same; in_hand = gg.in_hand }) }
@@ -182,7 +172,7 @@ frame_event {A} plan m S e cpu f step t ds st w alike idle =
     let same : deeds plan S e ≡ GoOn (frame_id f) next ∷ [] = ds ∙ by_its_top S cpu f (λ g frame. GoOn (frame_id g) (step frame) ∷ []) t in
     told plan m e (do_deeds plan (deeds plan S e) S)
     (subst (λ es. Stands plan (do_deeds plan es S)) (sym same)
-    (inside_stands plan S (do_deed plan (GoOn (frame_id f) next) S) f next st (goes_on_frames plan S f next) (top_there S.cpus cpu f t) refl refl refl w alike idle))
+    (inside_stands plan S (do_deed plan (GoOn (frame_id f) next) S) f next st (goes_on_frames plan S f next) (top_on S.cpus cpu f t) refl refl refl w alike idle))
 
 local_of : (i : Intent) → shape i ≡ 0 → (c : Change) × (next : ℕ) × (i ≡ intent.Local c next)
 local_of (intent.Local c next) h = (c, next, refl)
@@ -217,7 +207,7 @@ local_stands plan m S k line h st =
     let next : stepped f (intent_of plan f) ≡ stepped f (intent.Local l.0 l.1) = ap (stepped f) does in
     let rest = changed_rest f l.0 in
     frame_event plan m S (event.Local k line) k.0 a.frame (λ g. stepped g (intent_of plan g)) a.top refl st
-    (subst (λ g. Went (steps plan f.script (st.states a.frame)) (st.states a.frame) f g) (sym next) (local_goes plan (st.states a.frame) f l.0 l.1 (st.stands a.frame (top_there S.cpus k.0 a.frame a.top)).simulates does))
+    (subst (λ g. Went (steps plan f.script (st.states a.frame)) (st.states a.frame) f g) (sym next) (local_goes plan (st.states a.frame) f l.0 l.1 (st.stands a.frame (top_on S.cpus k.0 a.frame a.top)).simulates does))
     (subst (Alike f) (sym next) (same_rest f (stepped f (intent.Local l.0 l.1)) rest.0.script rest.0.callback rest.0.object rest.0.request)) (ap (λ (g : Frame). g.pending) next ∙ rest.1 ∙ a.idle)
 
 plain_event : {A : Type 0} (plan : Plan) (m : Meaning A) (S : State A) (k : Cpu) (e : Event) (n : ℕ) (step : Frame → Frame) → ((x : Event) → same_event x e ≡ true → shown_shape x ≡ n) → nat_lt n 7 ≡ true → IsPlain n ≡ true → is_own_event plan m S k e ≡ true
@@ -229,7 +219,7 @@ plain_event plan m S k e n step shows low is h ds at vars alike idle st =
     let a = acts.1 in
     let f : Frame = frame_of S.cpus a.frame in
     frame_event plan m S e k.0 a.frame step a.top ds st
-    (plain_goes plan (st.states a.frame) f (step f) acts.0 (st.stands a.frame (top_there S.cpus k.0 a.frame a.top)).simulates a.about (subst (λ q. IsPlain q ≡ true) (sym acts.2) is) (at f) (vars f))
+    (plain_goes plan (st.states a.frame) f (step f) acts.0 (st.stands a.frame (top_on S.cpus k.0 a.frame a.top)).simulates a.about (subst (λ q. IsPlain q ≡ true) (sym acts.2) is) (at f) (vars f))
     (alike f) (idle f a.idle)
 
 pub log_stands : {A : Type 0} (plan : Plan) (m : Meaning A) (S : State A) (k : Cpu) (v : Value) → may plan m S (event.Log k v) ≡ true → Stands plan S → Stands plan (after plan m S (event.Log k v))
@@ -266,4 +256,4 @@ register_stands plan m S k w r v h st =
     let f : Frame = frame_of S.cpus a.frame in
     let rest = answered_rest plan f (Num v) in
     frame_event plan m S (event.Register k w r v) k.0 a.frame (λ g. answered plan g (Num v)) a.top refl st
-    (register_goes plan (st.states a.frame) f acts.0 (Num v) (st.stands a.frame (top_there S.cpus k.0 a.frame a.top)).simulates a.about (accessed w (shape acts.0) acts.2)) rest refl
+    (register_goes plan (st.states a.frame) f acts.0 (Num v) (st.stands a.frame (top_on S.cpus k.0 a.frame a.top)).simulates a.about (accessed w (shape acts.0) acts.2)) rest refl

@@ -26,18 +26,18 @@ use Rattle.wdf_model.specs.rules.Deeds.{do_deed, do_deeds, give_up, release_powe
 use Rattle.std.specs.List.{list_all}
 use Rattle.wdf_base.specs.declared.call.CallKind.TheVariants as call
 use Rattle.wdf_base.specs.declared.event.Event.{Event}
-use Rattle.wdf_model.proofs.Tests.{both_left, both_right, not_true}
+use Rattle.wdf_model.proofs.Tests.{not_true}
 use Rattle.law_machine_deeds.specs.MayDo.{calls, may_do}
-use Rattle.law_machine_lives.proofs.AllOf.{AllOf}
+use Rattle.law_machine_lives.proofs.AllOf.{AllOf, all_such}
 use Rattle.law_machine_base.specs.Fits.{fits}
 use Rattle.law_machine_base.proofs.KeptMoves.{front_queued}
 use Rattle.wdf_model.proofs.Counts.{one_or_two}
 use Rattle.wdf_model.proofs.Maps.{entry_map}
-use Rattle.law_machine_lives.proofs.Readers.{arrived_power}
 use Rattle.law_machine_lives.proofs.Stays.{asks_all, closed_power, returning_power, withdrawn_power}
 use Rattle.law_lint.proofs.Grips.{Apart}
 use Rattle.law_lint.proofs.Others.{Places}
 use Rattle.law_machine_counts.proofs.Releases.{holding_elsewhere, holding_here}
+use Rattle.law_machine_counts.proofs.Arrived.{arrived_power}
 
 -- what is so of request x is so after; of its acknowledgement only where `fresh` says so
 pub record FlagsKept (fresh : Bool) (P O : Power) (x : ℕ) : Type 0 where
@@ -251,8 +251,4 @@ unasking_by (Acknowledge r) S h = absurd (let z : ⊥ = cc in z)
 unasking_by _ S h = tt
 
 pub all_unasking : {A : Type 0} (plan : Plan) (ds : List Deed) (S : State A) → list_all (λ d. not (is_acknowledging d)) ds ≡ true → AllAskDeeds plan ds S
-all_unasking plan [] S h = tt
-all_unasking plan (d ∷ ds) S h = (
-  unasking_by d S (not_true (is_acknowledging d) (both_left (not (is_acknowledging d)) (list_all (λ e. not (is_acknowledging e)) ds) h)),
-  all_unasking plan ds (do_deed plan d S) (both_right (not (is_acknowledging d)) (list_all (λ e. not (is_acknowledging e)) ds) h),
-)
+all_unasking {A} plan ds S h = all_such plan (λ (d : Deed) (U : State A). Asks d U) (λ d. not (is_acknowledging d)) (λ d U k. unasking_by d U (not_true (is_acknowledging d) k)) ds S h

@@ -34,6 +34,8 @@ use Rattle.wdf_model.proofs.Counts.{count_cons, one_or_two}
 use Rattle.law_machine_base.proofs.Deletion.{asking_deletes}
 use Rattle.law_machine_base.proofs.KeptByDeeds.{KeptIn}
 use Rattle.law_machine_base.proofs.KeptMoves.{front_queued}
+use Rattle.law_machine_counts.proofs.Totals.{flagged}
+use Rattle.law_trace_settled.proofs.Returning.{given_requests}
 
 -- ---- one request
 
@@ -269,11 +271,8 @@ given_by : {A : Type 0} (S T : State A) (b : Bool) → T.requests ≡ S.requests
 given_by S T true e = e
 given_by S T false e = refl
 
-pub given_up : {A : Type 0} (S : State A) (r : ℕ) → (give_up S r).requests ≡ S.requests
-given_up S r = given_by S _ (is_with_driver S r) refl
-
 pub given_up_if : {A : Type 0} (S : State A) (forget : Bool) (r : ℕ) → (give_up_if forget S r).requests ≡ S.requests
-given_up_if S true r = given_up S r
+given_up_if S true r = given_requests S r
 given_up_if S false r = refl
 
 pub asked : {A : Type 0} (S : State A) (o : ℕ) → (ask_objects S o).requests ≡ S.requests
@@ -323,13 +322,9 @@ members_loose (y ∷ ys) R h = (
   members_loose ys R (λ r more. h r (let c = count_cons (λ z. z == r) y ys in omega arith)),
 )
 
-flag_true : (b : Bool) → 1 ≤ flag b → b ≡ true
-flag_true true h = refl
-flag_true false h = absurd (omega arith)
-
 line_loose : {A : Type 0} {F B : ℕ → Bool} (S : State A) (q : ℕ) → KeptIn F B S → AllLoose (waiting_in S.queues q) S.requests
 line_loose S q k = members_loose (waiting_in S.queues q) S.requests
-    (λ r more. queued_loose q (place_of S.requests r) (flag_true (is_queued_in q (place_of S.requests r)) (let e = k.queued q r in omega arith)))
+    (λ r more. queued_loose q (place_of S.requests r) (flagged (is_queued_in q (place_of S.requests r)) (let e = k.queued q r in omega arith)))
 
 all_returning : {A : Type 0} (x : ℕ) (qs : List ℕ) (S : State A) → LaterAt x S.requests (fold close_returning S qs).requests
 all_returning x [] S = at_same x S.requests S.requests refl
@@ -357,7 +352,7 @@ moves_then x R U r p e n = subst (λ (V : Requests). LaterAt x R (requests.move_
 
 gives_back : {A : Type 0} (x : ℕ) (plan : Plan) (S : State A) (q r : ℕ) → x ≢ r → LaterAt x S.requests (requests.move_to (requests.cancel (give_up S r).requests r) r (withdrawn_place plan (give_up S r) q r))
 gives_back x plan S q r n =
-    subst (λ (V : Requests). LaterAt x S.requests (requests.move_to (requests.cancel V r) r (withdrawn_place plan (give_up S r) q r))) (sym (given_up S r))
+    subst (λ (V : Requests). LaterAt x S.requests (requests.move_to (requests.cancel V r) r (withdrawn_place plan (give_up S r) q r))) (sym (given_requests S r))
     (at_then x S.requests (requests.cancel S.requests r) _ (cancels_at x S.requests r) (moves_apart x (requests.cancel S.requests r) r _ n))
 
 completes : {A : Type 0} (x : ℕ) (S : State A) (r : ℕ) → (x ≢ r) ⊎ (is_closing (place_of S.requests x) ≡ true) → LaterAt x S.requests (requests.move_to S.requests r place.Done)
@@ -386,8 +381,8 @@ deed_later plan (AskDeletion o) S x f k old a = at_same x S.requests _ (asked S 
 deed_later plan (EndLife o) S x f k old a = forgets x S.requests o.0
 deed_later plan (Present q r) S x f k old a = moves_loose x S.requests r.0 place.Owned (queued_loose q.0 (place_of S.requests r.0) (front_queued q.0 r.0 k f))
 deed_later plan (Receive q r) S x f k old a = moves_loose x S.requests r.0 place.Owned (returning_loose q.0 (place_of S.requests r.0) f)
-deed_later plan (Requeue r q) S x f k old a = moves_then x S.requests (give_up S r.0).requests r.0 (queued q.0) (given_up S r.0) a
-deed_later plan (Forward r q) S x f k old a = moves_then x S.requests (give_up S r.0).requests r.0 (queued q.0) (given_up S r.0) a
+deed_later plan (Requeue r q) S x f k old a = moves_then x S.requests (give_up S r.0).requests r.0 (queued q.0) (given_requests S r.0) a
+deed_later plan (Forward r q) S x f k old a = moves_then x S.requests (give_up S r.0).requests r.0 (queued q.0) (given_requests S r.0) a
 deed_later plan (GiveBack r q) S x f k old a = gives_back x plan S q.0 r.0 a
 deed_later plan (Withdraw q r) S x f k old a = withdraws_at x S.requests r.0 _ (queued_loose q.0 (place_of S.requests r.0) f)
 deed_later plan (MarkRequest r) S x f k old a = one_changes x S.requests r.0 requests.marked (λ e. absurd (a e))

@@ -23,8 +23,9 @@ use Rattle.wdf_lint.specs.Abstracts.{lock_after}
 use Rattle.wdf_model.proofs.Sames.{one_lock}
 use Rattle.law_trace_once.proofs.Words.{found_counts}
 use Rattle.law_lint.proofs.Frames.{Assigned, One, Same}
-use Rattle.law_lint.proofs.Holdings.{HasLock, Left, two_of}
+use Rattle.law_lint.proofs.Holdings.{HasLock, Left}
 use Rattle.law_lint.proofs.Weights.{Single, absent, lock_weight, weight, written}
+use Rattle.law_trace_scopes.proofs.Holding.{two_holds}
 
 -- ---- what a frame holds
 
@@ -137,7 +138,7 @@ as_many L f [] single has = omega arith
 as_many L f (x ∷ xs) single has =
     let mine : 1 ≤ count_by (λ h. same_lock h.lock (object_lock x) && h.frame.0 == f && h.by_call) L.held = found_counts (λ h. same_lock h.lock (object_lock x) && h.frame.0 == f && h.by_call) L.held (has x (first_there x xs)) in
     let rest = as_many L f xs (λ i. (let most = single i in let c = count_cons (λ y. y == i) x xs in omega arith)) (λ i is. has i (later_there i x xs is)) in
-    let all = two_of (λ h. same_lock h.lock (object_lock x) && h.frame.0 == f && h.by_call) (λ h. one_of xs h.lock && by_frame f h) (λ h. one_of (x ∷ xs) h.lock && by_frame f h) apart L.held in
+    let all = two_holds (λ h. same_lock h.lock (object_lock x) && h.frame.0 == f && h.by_call) (λ h. one_of xs h.lock && by_frame f h) (λ h. one_of (x ∷ xs) h.lock && by_frame f h) apart L.held in
     omega arith
   where
     first_there : (x : ℕ) (xs : List ℕ) → contains x (x ∷ xs) ≡ true
@@ -175,7 +176,7 @@ as_many L f (x ∷ xs) single has =
 -- no more holds than all of the frame's
 in_all : (L : Locks) (f : ℕ) (is : List ℕ) → count_by (λ h. one_of is h.lock && by_frame f h) L.held ≤ held_by_call L f
 in_all L f is =
-    let all = two_of (λ h. false) (λ h. one_of is h.lock && by_frame f h) (by_frame f) (λ h. by (one_of is h.lock) (by_frame f h)) L.held in
+    let all = two_holds (λ h. false) (λ h. one_of is h.lock && by_frame f h) (by_frame f) (λ h. by (one_of is h.lock) (by_frame f h)) L.held in
     omega arith
   where
     by : (s b : Bool) → flag false + flag (s && b) ≤ flag b

@@ -1,5 +1,5 @@
 -- Which locks a frame holds by calls, and how many: what each deed and each event makes of that.
-use Rattle.std.proofs.Common.{◌≡◌, ◌≢◌, ℕ, ◌+◌, ◌==◌, ◌≤◌, Bool, true, false, not, ◌&&◌, ◌||◌, List, [], ◌∷◌, ◌++◌, inl, inr, Option, Some, None, filter, count_by, refl, sym, ap, subst, ◌∙◌, arith}
+use Rattle.std.proofs.Common.{◌≡◌, ◌≢◌, ℕ, ◌+◌, ◌==◌, ◌≤◌, Bool, true, false, not, ◌&&◌, ◌||◌, List, [], ◌∷◌, ◌++◌, inl, inr, Option, Some, None, filter, refl, sym, ap, subst, ◌∙◌, arith}
 use Rattle.std.proofs.lemmas.Bool.{cases_Bool, eqb-true}
 use Rattle.std.specs.List.{list_all, list_any}
 use Rattle.wdf_base.specs.declared.plan.Plan.{Plan}
@@ -17,7 +17,7 @@ use Rattle.wdf_model.specs.declared.deed.Deed.TheVariants.{ReleaseLock, TakeLock
 use Rattle.wdf_model.specs.rules.Deeds.{do_deed, do_deeds}
 use Rattle.wdf_model.specs.rules.Starts.{take_if_any}
 use Rattle.wdf_model.specs.rules.Steps.{deeds}
-use Rattle.wdf_model.proofs.Counts.{count_behind, count_cons, count_of_one, equal, filter_less, not_equal, one_or_two}
+use Rattle.wdf_model.proofs.Counts.{count_behind, count_of_one, equal, filter_less, not_equal, one_or_two}
 use Rattle.wdf_model.proofs.Tests.{both, both_left, both_right, not_true}
 use Rattle.law_machine_deeds.specs.MayDo.{is_start, may_do, releasing, second_part}
 use Rattle.law_machine_deeds.proofs.Passing.{event_passes}
@@ -26,7 +26,7 @@ use Rattle.law_machine_lives.proofs.LocksOnce.{Once}
 use Rattle.law_machine_lives.proofs.PartsStay.{locks_stay}
 use Rattle.law_machine_lives.proofs.Counted.{split}
 use Rattle.law_trace_once.proofs.Words.{any_weaker, found_counts}
-use Rattle.law_trace_scopes.proofs.Holding.{is_other_hold, not_own, own_holds}
+use Rattle.law_trace_scopes.proofs.Holding.{is_other_hold, not_own, own_holds, two_holds}
 
 -- a lock that this frame took in a call
 abbrev pub is_by : ℕ → Held → Bool
@@ -141,14 +141,6 @@ release_keeps L l g x apart h = any_kept (λ y. same_lock y.lock (object_lock x)
 pub release_other : (L : Locks) (y g x : ℕ) → x ≢ y → HasLock L g x → HasLock (locks.release L (object_lock y)) g x
 release_other L y g x n h = release_keeps L (object_lock y) g x (not_equal x y n) h
 
--- how often two kinds of hold are there, of those of which each is
-pub two_of : (p q r : Held → Bool) → ((h : Held) → flag (p h) + flag (q h) ≤ flag (r h)) → (hs : List Held) → count_by p hs + count_by q hs ≤ count_by r hs
-two_of p q r less [] = omega arith
-two_of p q r less (h ∷ hs) =
-    let a = count_cons p h hs in let b = count_cons q h hs in let c = count_cons r h hs in
-    let now_ = less h in let rest = two_of p q r less hs in
-    omega arith
-
 -- a lock that is held once is held by one frame
 pub one_holder : (L : Locks) (l : LockRef) (f g : ℕ) → Once L → holds_by_call L f l ≡ true → holds_by_call L g l ≡ true → f ≡ g
 one_holder L l f g once a b = elim (one_or_two f g) [
@@ -157,7 +149,7 @@ one_holder L l f g once a b = elim (one_or_two f g) [
       let p = found_counts (λ h. same_lock h.lock l && h.frame.0 == f && h.by_call) L.held a in
       let q = found_counts (λ h. same_lock h.lock l && h.frame.0 == g && h.by_call) L.held b in
       let most = once l in
-      let all = two_of (λ h. same_lock h.lock l && h.frame.0 == f && h.by_call) (λ h. same_lock h.lock l && h.frame.0 == g && h.by_call) (λ h. same_lock h.lock l) (apart n) L.held in
+      let all = two_holds (λ h. same_lock h.lock l && h.frame.0 == f && h.by_call) (λ h. same_lock h.lock l && h.frame.0 == g && h.by_call) (λ h. same_lock h.lock l) (apart n) L.held in
       let z : ⊥ = omega arith in z)
 ]
   where

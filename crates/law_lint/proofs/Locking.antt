@@ -1,5 +1,5 @@
 -- A call that is answered, and the locks that its frame holds by calls: those that the state after it says.
-use Rattle.std.proofs.Common.{◌≡◌, ◌≢◌, ℕ, true, false, Option, None, refl, sym, subst, arith, Bool, List, Some, ap, is_some, length, option_and_then, slice_get, unwrap_or, if◌then◌else◌, ◌∙◌, inl, inr}
+use Rattle.std.proofs.Common.{◌≡◌, ◌≢◌, ℕ, true, false, Option, None, refl, sym, subst, arith, Bool, List, Some, ap, is_some, length, slice_get, unwrap_or, if◌then◌else◌, ◌∙◌, inl, inr}
 use Rattle.wdf_base.specs.declared.plan.Plan.{Plan}
 use Rattle.wdf_base.specs.declared.ids.Cpu.{Cpu}
 use Rattle.wdf_base.specs.declared.value.Value.{Value}
@@ -38,7 +38,6 @@ use Rattle.wdf_base.specs.declared.signature.Sort.TheVariants as sort
 use Rattle.wdf_base.specs.declared.value.Value.TheVariants.{Num}
 use Rattle.wdf_base.specs.Callbacks.{row_of}
 use Rattle.wdf_base.specs.Calls.{is_acquire, is_release, signature_of}
-use Rattle.wdf_base.specs.Kinds.{declared_kind}
 use Rattle.wdf_base.specs.Lives.{is_past_cleanup}
 use Rattle.wdf_base.specs.Plan.{declared_of}
 use Rattle.wdf_base.specs.Resolved.{IsResolved}
@@ -61,6 +60,7 @@ use Rattle.wdf_lint.specs.Steps.{acquired, acquired_at, is_of_interrupt, node_of
 use Rattle.law_lint.proofs.Began.{Began}
 use Rattle.law_lint.proofs.HeldAs.{HasIn, HasPlain, HeldAs, has_kept, held_later, is_interrupt, object_at}
 use Rattle.wdf_base.specs.declared.declared.InterruptInfo.{InterruptInfo}
+use Rattle.law_machine_lives.proofs.ReasonsOfCalls.{interrupt_by}
 
 -- what a frame holds by calls after a step to this state, and what others keep of theirs
 pub record Locked (plan : Plan) (K L : Locks) (f : ℕ) (vars : List Value) (b : Abstract) : Type 0 where
@@ -132,15 +132,6 @@ names plan f k x b of = record { variable = argument_names plan f x; interrupt =
 
 -- ---- kinds
 
-interrupt_declared : (x : Option Declared) → option_and_then declared_kind x ≡ Some kind.Interrupt → is_some (as_interrupt x) ≡ true
-interrupt_declared (Some (declared.Interrupt i)) h = refl
-interrupt_declared None h = absurd (let z : ⊥ = cc in z)
-interrupt_declared (Some declared.Driver) h = absurd (let z : ⊥ = cc in z)
-interrupt_declared (Some (declared.Device d)) h = absurd (let z : ⊥ = cc in z)
-interrupt_declared (Some (declared.Queue d)) h = absurd (let z : ⊥ = cc in z)
-interrupt_declared (Some (declared.Target d)) h = absurd (let z : ⊥ = cc in z)
-interrupt_declared (Some (declared.OfClass d)) h = absurd (let z : ⊥ = cc in z)
-
 declared_interrupt : (x : Option Declared) → is_some (as_interrupt x) ≡ true → (i : InterruptInfo) × (x ≡ Some (declared.Interrupt i))
 declared_interrupt (Some (declared.Interrupt i)) h = (i, refl)
 declared_interrupt None h = absurd (let z : ⊥ = cc in z)
@@ -158,7 +149,7 @@ module _ {A : Type 0} (plan : Plan) (S : State A) (free : FreeState plan S) (cpu
   interrupt_there : (x : ℕ) → same_kind (kind_of S.tree x) kind.Interrupt ≡ true → is_interrupt plan x ≡ true
   interrupt_there x h =
       let k : kind_of S.tree x ≡ kind.Interrupt = (kind_decides (kind_of S.tree x) kind.Interrupt).0 h in
-      interrupt_declared (declared_of plan x) (free.declared.declared x (ap is_declared_kind k) ∙ ap Some k)
+      interrupt_by (declared_of plan x) (free.declared.declared x (ap is_declared_kind k) ∙ ap Some k)
 
   -- one that is there and of another kind isn't
   no_interrupt : (x : ℕ) (k : Kind) → same_kind k kind.Interrupt ≡ false → same_kind (kind_of S.tree x) k ≡ true → is_past_cleanup (life_of S.tree x) ≡ false → is_interrupt plan x ≡ false

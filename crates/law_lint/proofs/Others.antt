@@ -1,6 +1,5 @@
 -- What an event leaves of the requests where no owner acts on one of them.
 use Rattle.std.proofs.Common.{◌≡◌, ℕ, ◌<◌, Bool, true, false, not, ◌||◌, List, [], ◌∷◌, length, refl, arith}
-use Rattle.std.specs.Prelude.{⊤}
 use Rattle.std.specs.List.{list_all}
 use Rattle.wdf_base.specs.declared.plan.Plan.{Plan}
 use Rattle.wdf_base.specs.declared.call.CallKind.{CallKind}
@@ -19,6 +18,7 @@ use Rattle.law_machine_deeds.specs.MayDo.{calls, first_part, gives_back, gives_t
 use Rattle.law_machine_deeds.proofs.Walk.{all_pass, event_may}
 use Rattle.law_machine_deeds.proofs.Passing.{calls_among, first_among}
 use Rattle.law_lint.proofs.Grips.{Apart, LaterAt, at_same, at_then, deed_later}
+use Rattle.law_machine_lives.proofs.AllOf.{AllOf, all_such}
 
 -- ---- the deeds of owners
 
@@ -43,15 +43,10 @@ apart_of (CompleteRequest r) S x h = absurd (let z : ⊥ = cc in z)
 apart_of _ S x h = tt
 
 abbrev pub AllApart : {A : Type 0} → Plan → List Deed → State A → ℕ → Type 0
-AllApart plan [] S x = ⊤
-AllApart plan (d ∷ ds) S x = Apart d S x × AllApart plan ds (do_deed plan d S) x
+AllApart {A} plan ds S x = AllOf plan (λ (d : Deed) (U : State A). Apart d U x) ds S
 
 pub all_apart : {A : Type 0} (plan : Plan) (ds : List Deed) (S : State A) (x : ℕ) → list_all (λ d. not (is_owners d)) ds ≡ true → AllApart plan ds S x
-all_apart plan [] S x h = tt
-all_apart plan (d ∷ ds) S x h = (
-  apart_of d S x (not_true (is_owners d) (both_left (not (is_owners d)) (list_all (λ e. not (is_owners e)) ds) h)),
-  all_apart plan ds (do_deed plan d S) x (both_right (not (is_owners d)) (list_all (λ e. not (is_owners e)) ds) h),
-)
+all_apart {A} plan ds S x h = all_such plan (λ (d : Deed) (U : State A). Apart d U x) (λ d. not (is_owners d)) (λ d U k. apart_of d U x (not_true (is_owners d) k)) ds S h
 
 pub deeds_later : {A : Type 0} (plan : Plan) (ds : List Deed) (S : State A) (x : ℕ) → all_fit plan ds S ≡ true → Places S → x < length S.requests.all → AllApart plan ds S x
     → LaterAt x S.requests (do_deeds plan ds S).requests

@@ -59,7 +59,7 @@ use Rattle.law_lint.proofs.Calming.{one_on_queue}
 use Rattle.law_lint.proofs.Flags.{FlagsKept}
 use Rattle.law_lint.proofs.Owning.{Guarded, OwnAs, Stopping, grip_later, hand_before, hand_origin, has_origin, own_alike, stopping_later}
 use Rattle.law_lint.proofs.Resting.{all_calm, deeds_flags, is_flagging, none_flagging}
-use Rattle.law_lint.proofs.Events.{answered_rest, top_there, told}
+use Rattle.law_lint.proofs.Events.{answered_rest, told}
 use Rattle.law_lint.proofs.Faults.{Calls, calls, holds_so, rule_off}
 use Rattle.law_lint.proofs.Frames.{Simulates}
 use Rattle.law_lint.proofs.Answers.{CallWent, call_went}
@@ -70,6 +70,7 @@ use Rattle.law_lint.proofs.HeldAs.{HeldAs, held_assigned}
 use Rattle.law_lint.proofs.Locking.{Locked}
 use Rattle.law_lint.proofs.Dids.{did_locked, has_ways, still_goes}
 use Rattle.wdf_model.proofs.FrameCounts.{on}
+use Rattle.law_machine_lives.proofs.ReasonsOfEvents.{top_on}
 
 -- what such a call does to its own request and to no other
 pub record OwnersGo {A : Type 0} (plan : Plan) (S : State A) (r : ℕ) (h : Hold) (o : Outcome) (ws : List Way) : Type 0 where
@@ -228,7 +229,7 @@ owner_keeps {A} plan m S k c v clean row h free st = (
     frame = frame_of S.cpus f
 
     there : 1 ≤ on S.cpus f
-    there = top_there S.cpus k.0 f d.about.top
+    there = top_on S.cpus k.0 f d.about.top
 
     a : Abstract
     a = st.states f

@@ -16,7 +16,7 @@ use Rattle.law_machine_base.specs.Fits.{all_fit, fits}
 use Rattle.law_machine_base.proofs.KeptByDeeds.{deed_keeps}
 use Rattle.law_machine_deeds.specs.MayDo.{calls, first_part, is_completion, is_stage, may_do}
 use Rattle.law_machine_deeds.proofs.Passing.{calls_among, event_passes}
-use Rattle.law_machine_lives.proofs.AllOf.{AllOf}
+use Rattle.law_machine_lives.proofs.AllOf.{AllOf, all_such}
 use Rattle.law_lint.proofs.Flags.{Calm, FlagsKept, deed_flags, flags_same, flags_then}
 use Rattle.law_lint.proofs.Grips.{LaterAt, deed_later}
 use Rattle.law_lint.proofs.Others.{AllApart, Places, all_apart, is_owners, is_owners_call, is_owners_event, not_owners}
@@ -48,11 +48,7 @@ calm_of fresh (AdvancePower d s) S x h = absurd (let z : ⊥ = cc in z)
 calm_of fresh _ S x h = tt
 
 pub all_calm : {A : Type 0} (plan : Plan) (fresh : Bool) (ds : List Deed) (S : State A) (x : ℕ) → list_all (λ d. not (is_flagging d)) ds ≡ true → AllCalm plan fresh ds S x
-all_calm plan fresh [] S x h = tt
-all_calm plan fresh (d ∷ ds) S x h = (
-  calm_of fresh d S x (not_true (is_flagging d) (both_left (not (is_flagging d)) (list_all (λ e. not (is_flagging e)) ds) h)),
-  all_calm plan fresh ds (do_deed plan d S) x (both_right (not (is_flagging d)) (list_all (λ e. not (is_flagging e)) ds) h),
-)
+all_calm {A} plan fresh ds S x h = all_such plan (λ (d : Deed) (U : State A). Calm fresh d U x) (λ d. not (is_flagging d)) (λ d U k. calm_of fresh d U x (not_true (is_flagging d) k)) ds S h
 
 unflagging : (e : Event) → calls call.WdfRequestStopAcknowledge e ≡ false → is_stage e ≡ false → (d : Deed) → may_do e d ≡ true → not (is_flagging d) ≡ true
 unflagging e off n (Acknowledge r) h = absurd (let z : ⊥ = cc in z)

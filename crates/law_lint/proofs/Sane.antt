@@ -28,11 +28,13 @@ use Rattle.wdf_model.specs.declared.deed.Deed.{Deed}
 use Rattle.wdf_model.specs.declared.deed.Deed.TheVariants.{MakeRequest, Arrive, AskDeletion, EndLife, Present, Receive, Requeue, Forward, GiveBack, Withdraw, MarkRequest, UnmarkRequest, CancelRequest, TakeCancel, SendRequest, FinishSending, ComeBack, CompleteRequest, PurgeQueue, CloseReturning, CloseDevice}
 use Rattle.wdf_model.specs.rules.Deeds.{close_queue, close_returning, do_deed, do_deeds, finished_at, give_up, queued, withdraw}
 use Rattle.law_machine_base.specs.Fits.{all_fit, fits}
-use Rattle.wdf_model.proofs.Tests.{both_left, both_right, not_true}
+use Rattle.wdf_model.proofs.Tests.{both_left, not_true}
 use Rattle.wdf_model.proofs.Maps.{entry_map, entry_put_other, entry_put_same, entry_set_other, set_read}
 use Rattle.wdf_model.proofs.Counts.{one_or_two}
 use Rattle.law_machine_base.proofs.KeptByDeeds.{owned_of}
-use Rattle.law_lint.proofs.Grips.{arrives, asked, given_up, given_up_if, is_armed}
+use Rattle.law_lint.proofs.Grips.{arrives, asked, given_up_if, is_armed}
+use Rattle.law_trace_settled.proofs.Returning.{given_requests}
+use Rattle.law_machine_lives.proofs.AllOf.{AllOf, all_keep, all_such}
 
 pub record Sane (q : Request) : Type 0 where
   pub armed : is_armed q.info.mark ≡ true → is_owned q.place ≡ true
@@ -182,10 +184,10 @@ deed_sane plan (EndLife o) S f s all = λ x. elim (one_or_two x o.0) [
 ]
 deed_sane plan (Present q r) S f s all = one_changes S.requests r.0 (moved place.Owned) (moves_sane (request_of S.requests r.0) place.Owned tt) all
 deed_sane plan (Receive q r) S f s all = one_changes S.requests r.0 (moved place.Owned) (moves_sane (request_of S.requests r.0) place.Owned tt) all
-deed_sane plan (Requeue r q) S f s all = moved_then S.requests (give_up S r.0).requests r.0 (queued q.0) (given_up S r.0) tt all
-deed_sane plan (Forward r q) S f s all = moved_then S.requests (give_up S r.0).requests r.0 (queued q.0) (given_up S r.0) tt all
+deed_sane plan (Requeue r q) S f s all = moved_then S.requests (give_up S r.0).requests r.0 (queued q.0) (given_requests S r.0) tt all
+deed_sane plan (Forward r q) S f s all = moved_then S.requests (give_up S r.0).requests r.0 (queued q.0) (given_requests S r.0) tt all
 deed_sane plan (GiveBack r q) S f s all =
-    subst (λ (V : Requests). AllSane (requests.move_to (requests.cancel V r.0) r.0 (withdrawn_place plan (give_up S r.0) q.0 r.0))) (sym (given_up S r.0))
+    subst (λ (V : Requests). AllSane (requests.move_to (requests.cancel V r.0) r.0 (withdrawn_place plan (give_up S r.0) q.0 r.0))) (sym (given_requests S r.0))
     (withdraws S.requests r.0 (withdrawn_place plan (give_up S r.0) q.0 r.0) (withdrawn_plain plan (give_up S r.0) q.0 r.0) all)
 deed_sane {A} plan (Withdraw q r) S f s all =
     let W : State A = record S { queues = queues.take_cancelled S.queues r.0 } in
@@ -209,13 +211,10 @@ deed_sane plan (CloseDevice d) S f s all = all_closed (queues_of plan d.0) (reco
 deed_sane plan _ S f s all = all
 
 abbrev pub AllSaneDeeds : {A : Type 0} → Plan → List Deed → State A → Type 0
-AllSaneDeeds plan [] S = ⊤
-AllSaneDeeds plan (d ∷ ds) S = SaneDeed d S × AllSaneDeeds plan ds (do_deed plan d S)
+AllSaneDeeds {A} plan ds S = AllOf plan (λ (d : Deed) (U : State A). SaneDeed d U) ds S
 
 pub deeds_sane : {A : Type 0} (plan : Plan) (ds : List Deed) (S : State A) → all_fit plan ds S ≡ true → AllSaneDeeds plan ds S → AllSane S.requests → AllSane (do_deeds plan ds S).requests
-deeds_sane plan [] S f s all = all
-deeds_sane plan (d ∷ ds) S f s all =
-    deeds_sane plan ds (do_deed plan d S) (both_right (fits plan d S) (all_fit plan ds (do_deed plan d S)) f) s.1 (deed_sane plan d S (both_left (fits plan d S) (all_fit plan ds (do_deed plan d S)) f) s.0 all)
+deeds_sane {A} plan ds S f s all = all_keep plan (λ (d : Deed) (U : State A). SaneDeed d U) (λ (U : State A). AllSane U.requests) (deed_sane plan) ds S f s all
 
 -- the deeds that ask for something
 abbrev pub is_asking : Deed → Bool
@@ -231,8 +230,4 @@ asks_none (CompleteRequest r) S h = absurd (let z : ⊥ = cc in z)
 asks_none _ S h = tt
 
 pub all_ask_none : {A : Type 0} (plan : Plan) (ds : List Deed) (S : State A) → list_all (λ d. not (is_asking d)) ds ≡ true → AllSaneDeeds plan ds S
-all_ask_none plan [] S h = tt
-all_ask_none plan (d ∷ ds) S h = (
-  asks_none d S (not_true (is_asking d) (both_left (not (is_asking d)) (list_all (λ e. not (is_asking e)) ds) h)),
-  all_ask_none plan ds (do_deed plan d S) (both_right (not (is_asking d)) (list_all (λ e. not (is_asking e)) ds) h),
-)
+all_ask_none {A} plan ds S h = all_such plan (λ (d : Deed) (U : State A). SaneDeed d U) (λ d. not (is_asking d)) (λ d U k. asks_none d U (not_true (is_asking d) k)) ds S h

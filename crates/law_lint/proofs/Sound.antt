@@ -80,12 +80,14 @@ use Rattle.law_lint.proofs.Acknowledging.{stop_asks, stop_none, stop_stands}
 use Rattle.law_lint.proofs.Around.{Around, around_event, around_opening, around_tick}
 use Rattle.law_lint.proofs.Dids.{has_ways, plain_stands, woke_stands}
 use Rattle.law_lint.proofs.Flags.{AllAskDeeds, AllAsked, all_unasking, deeds_asked, is_acknowledging, none_acknowledging}
-use Rattle.law_lint.proofs.Events.{Acts, Does, Faults, Own, Wakes, local_stands, log_stands, owns, register_stands, same_there, spend_stands, top_there}
+use Rattle.law_lint.proofs.Events.{Acts, Does, Faults, Own, Wakes, local_stands, log_stands, owns, register_stands, spend_stands}
 use Rattle.law_lint.proofs.Framework.{cleanup_stands, closing_unarmed, completion_stands, destroy_stands, post_stands, stage_stands, tick_stands}
 use Rattle.law_lint.proofs.Owners.{owner_keeps, ways_none}
 use Rattle.law_lint.proofs.Resting.{no_acknowledge}
 use Rattle.law_lint.proofs.Waits.{end_stands, fault_stands, park_stands, unpark_stands, waiting_stands, waits_for_none}
 use Rattle.wdf_model.proofs.FrameCounts.{none_or_some, on}
+use Rattle.law_machine_lives.proofs.LevelEvents.{found_own}
+use Rattle.law_machine_lives.proofs.ReasonsOfEvents.{top_on}
 
 -- ---- requests stay sane
 
@@ -349,9 +351,9 @@ fault_at {A} plan clean run free n k x line at is =
     by : (m : Meaning A) → (may plan m (free.states n) (event.Fault k x line) ≡ true) ⊎ ((time : ℕ) × (event.Fault k x line ≡ event.Tick time)) → Standing plan (free.states n) → FaultAt plan (free.states n) k.0 x
     by m (inr t) st = absurd (let e = t.1 in let q : ⊥ = cc in q)
     by m (inl h) st =
-        let found = same_there (own_event plan m (free.states n) k.0) (event.Fault k x line) h in
+        let found = found_own (own_event plan m (free.states n) k.0) (event.Fault k x line) h in
         let f : HasFault plan (free.states n) k.0 x = faulted plan m (free.states n) k x line found.0 found.2 (owns plan m (free.states n) k.0 found.0 found.1) is in
-        record { standing = st; fault = f; stands = st.stands.stands f.acts.frame (top_there (free.states n).cpus k.0 f.acts.frame f.acts.top) }
+        record { standing = st; fault = f; stands = st.stands.stands f.acts.frame (top_on (free.states n).cpus k.0 f.acts.frame f.acts.top) }
 
 -- Where the plan is clean, no fault of a free run is about who owns a request, but NotOwned of a frame that is about to acknowledge.
 pub sound : {A : Type 0} (plan : Plan) → IsClean plan → (run : List Event) (free : IsFreeRun A plan run) (n : ℕ) (k : Cpu) (x : Fault) (line : ℕ) → slice_get run n ≡ Some (event.Fault k x line) → IsOfOwning x

@@ -17,8 +17,9 @@ use Rattle.wdf_model.proofs.Tests.{both_left, both_right}
 use Rattle.wdf_model.proofs.Maps.{entry_put_other, entry_put_same, put_long}
 use Rattle.wdf_model.proofs.Counts.{one_or_two}
 use Rattle.law_machine_base.proofs.KeptByDeeds.{deed_keeps, owned_of, owned_undone}
-use Rattle.law_lint.proofs.Grips.{LaterAt, Spent, asked, deed_later, given_up, given_up_if, mark_moved, never_marked}
+use Rattle.law_lint.proofs.Grips.{LaterAt, Spent, asked, deed_later, given_up_if, mark_moved, never_marked}
 use Rattle.law_lint.proofs.Others.{Places, apart_of}
+use Rattle.law_trace_settled.proofs.Returning.{given_requests}
 
 -- request x stays spent, and stays
 pub record StaysSpent (x : ℕ) (R U : Requests) : Type 0 where
@@ -78,9 +79,9 @@ given_back x R U r p e =
     (one_changes x (requests.cancel R r) r (moved p) (λ _ s. subst (λ (q : Request). Spent (moved p q)) (sym (entry_put_same no_request R.all r (cancelled (request_of R r)))) (gives_spent (request_of R r) p))))
 
 pub deed_spent : {A : Type 0} (plan : Plan) (d : Deed) (S : State A) (x : ℕ) → fits plan d S ≡ true → Places S → x < length S.requests.all → StaysSpent x S.requests (do_deed plan d S).requests
-deed_spent plan (Requeue r q) S x f k old = moves_at x S.requests (give_up S r.0).requests r.0 (queued q.0) (given_up S r.0) (owned_of S r.0 f)
-deed_spent plan (Forward r q) S x f k old = moves_at x S.requests (give_up S r.0).requests r.0 (queued q.0) (given_up S r.0) (owned_of S r.0 (both_left (is_given S r.0) _ f))
-deed_spent plan (GiveBack r q) S x f k old = given_back x S.requests (give_up S r.0).requests r.0 (withdrawn_place plan (give_up S r.0) q.0 r.0) (given_up S r.0)
+deed_spent plan (Requeue r q) S x f k old = moves_at x S.requests (give_up S r.0).requests r.0 (queued q.0) (given_requests S r.0) (owned_of S r.0 f)
+deed_spent plan (Forward r q) S x f k old = moves_at x S.requests (give_up S r.0).requests r.0 (queued q.0) (given_requests S r.0) (owned_of S r.0 (both_left (is_given S r.0) _ f))
+deed_spent plan (GiveBack r q) S x f k old = given_back x S.requests (give_up S r.0).requests r.0 (withdrawn_place plan (give_up S r.0) q.0 r.0) (given_requests S r.0)
 deed_spent plan (MarkRequest r) S x f k old = one_changes x S.requests r.0 marked (λ _ s. marks_spent (request_of S.requests r.0) (is_cancelled S.requests r.0) refl (owned_of S r.0 f) s)
 deed_spent plan (UnmarkRequest r) S x f k old = one_changes x S.requests r.0 unmarked (λ _ s. unmarks_spent (request_of S.requests r.0) (is_marked (mark_of S.requests r.0)) refl s)
 deed_spent plan (SendRequest r t forget) S x f k old = moves_at x S.requests (give_up_if forget S r.0).requests r.0 (place.Sent (record { 0 = t.0 })) (given_up_if S forget r.0) (both_left (is_owned (place_of S.requests r.0)) _ (both_left (is_owned (place_of S.requests r.0) && _) _ f))

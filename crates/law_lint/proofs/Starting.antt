@@ -33,6 +33,7 @@ use Rattle.wdf_lint.specs.Abstracts.{hold_at_start}
 use Rattle.wdf_lint.specs.Steps.{is_own_or_marked, is_stop}
 use Rattle.law_lint.proofs.Calls.{InHand, origin_in}
 use Rattle.law_lint.proofs.Others.{Places}
+use Rattle.law_machine_counts.proofs.StepTable.{top_is}
 
 -- a hold of what is in its hands
 pub begins_with : (h : Hold) (R : Requests) (x : ℕ) → InHand h R x → is_own_or_marked h ≡ true
@@ -40,10 +41,6 @@ begins_with hold.Own R x i = refl
 begins_with hold.Marked R x i = refl
 begins_with hold.Away R x i = absurd i
 begins_with hold.Stop R x i = absurd i
-
-pub origin_held : (x : Option ℕ) (o : ℕ) → same_id x o ≡ true → x ≡ Some o
-origin_held None o h = absurd (let z : ⊥ = cc in z)
-origin_held (Some i) o h = ap Some (eqb-true i o h)
 
 from_queue : (q : Request) (o : ℕ) → is_queued_in o q.place ≡ true → origin_in (moved place.Owned q) ≡ Some o
 from_queue q o h = by q.place refl h
@@ -82,7 +79,7 @@ module _ {A : Type 0} (plan : Plan) (S : State A) (places : Places S) where
   cancelled : (o r : ℕ) → (is_due (mark_of S.requests r) && is_held_from S o r) ≡ true → origin_of (requests.take_cancel S.requests r) r ≡ Some o
   cancelled o r h =
       ap origin_in (entry_put_same no_request S.requests.all r (with_mark marks.Taken (request_of S.requests r)))
-      ∙ origin_held (origin_of S.requests r) o (both_left (same_id (origin_of S.requests r) o) (is_with_driver S r) (both_right (is_due (mark_of S.requests r)) (is_held_from S o r) h))
+      ∙ top_is (origin_of S.requests r) o (both_left (same_id (origin_of S.requests r) o) (is_with_driver S r) (both_right (is_due (mark_of S.requests r)) (is_held_from S o r) h))
 
   sent_there : (p : Place) (o : ℕ) → is_sent_to o p ≡ true → is_sent p ≡ true
   sent_there (place.Sent t) o h = refl

@@ -5,7 +5,6 @@ use Rattle.wdf_base.specs.Places.{is_sent, is_sent_to}
 use Rattle.wdf_base.specs.declared.declared.TargetInfo.{TargetInfo}
 use Rattle.wdf_base.specs.declared.object.Place.{Place}
 use Rattle.wdf_base.specs.declared.object.Place.TheVariants as place
-use Rattle.wdf_base.specs.declared.object.RequestInfo.{RequestInfo}
 use Rattle.wdf_base.specs.declared.plan.Plan.{Plan}
 use Rattle.wdf_model.specs.declared.entries.Sending.{Sending}
 use Rattle.wdf_model.specs.declared.enums.Mode.TheVariants as mode
@@ -20,7 +19,7 @@ use Rattle.wdf_model.specs.parts.Tree.{subtree}
 use Rattle.wdf_model.specs.State.{State}
 use Rattle.wdf_model.specs.declared.deed.Deed.{Deed}
 use Rattle.wdf_model.specs.declared.deed.Deed.TheVariants.{Arrive, AskDeletion, CloseDevice, CloseReturning, ComeBack, CompleteRequest, FinishSending, Forward, GiveBack, PurgeQueue, Requeue, SendRequest, StartTarget, StopTarget}
-use Rattle.wdf_model.specs.rules.Deeds.{arrive_at, do_deed, do_deeds, give_up}
+use Rattle.wdf_model.specs.rules.Deeds.{do_deed, do_deeds, give_up}
 use Rattle.wdf_model.proofs.Counts.{one_or_two}
 use Rattle.wdf_model.proofs.Maps.{entry_put_other, entry_put_same}
 use Rattle.wdf_model.proofs.Tests.{both_left, both_right, itself, not_true}
@@ -28,6 +27,7 @@ use Rattle.law_machine_base.specs.Fits.{all_fit, fits}
 use Rattle.law_machine_base.proofs.KeptByDeeds.{deed_keeps}
 use Rattle.law_machine_lives.proofs.Stays.{asks_all, gives_up, queues_closed, returns_closed, withdraws}
 use Rattle.law_lint.proofs.Others.{Places}
+use Rattle.law_machine_counts.proofs.Arrived.{arrived_targets}
 
 -- no target has a request
 abbrev pub NoneSent : Targets → Type 0
@@ -62,15 +62,11 @@ one_target T n f same none t = elim (one_or_two t n) [
   | inr x ↦ ap (λ (y : Target). y.sent) (entry_put_other no_target T.targets n t (f (the_target T n)) x) ∙ none t
 ]
 
-arrived : {A : Type 0} (S : State A) (device : ℕ) (info : RequestInfo) (p : Place) → (arrive_at S device info p).targets ≡ S.targets
-arrived S device info (place.Queued q) = refl
-arrived S device info _ = refl
-
 same_none : (T O : Targets) → O ≡ T → NoneSent T → NoneSent O
 same_none T O e none = subst NoneSent (sym e) none
 
 deed_none : {A : Type 0} (plan : Plan) (d : Deed) (S : State A) → fits plan d S ≡ true → Places S → is_sending d ≡ false → NoneSent S.targets → NoneSent (do_deed plan d S).targets
-deed_none plan (Arrive device info p) S f k off none = same_none S.targets _ (arrived S device.0 info p) none
+deed_none plan (Arrive device info p) S f k off none = same_none S.targets _ (arrived_targets S device.0 info p) none
 deed_none plan (AskDeletion o) S f k off none = same_none S.targets _ (asks_all (λ (T : State _). T.targets) (λ S T D W U. refl) (subtree S.tree o.0) S) none
 deed_none plan (Requeue r q) S f k off none = same_none S.targets _ (gives_up (λ (T : State _). T.targets) (λ S Q R P. refl) S r.0) none
 deed_none plan (Forward r q) S f k off none = same_none S.targets _ (gives_up (λ (T : State _). T.targets) (λ S Q R P. refl) S r.0) none

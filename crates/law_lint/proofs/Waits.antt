@@ -49,7 +49,6 @@ use Rattle.wdf_model.specs.rules.Starts.{end_deeds, end_of_step, release_if_any}
 use Rattle.law_machine_base.specs.Fits.{all_fit}
 use Rattle.law_machine_base.proofs.OwnEvents.{IsEnd, IsWaiting, end_tells, waiting_tells}
 use Rattle.wdf_model.proofs.Maps.{entry_put_other}
-use Rattle.std.proofs.lemmas.Bool.Decides.{nat_tests}
 use Rattle.wdf_base.specs.declared.event.Fault.TheVariants as fault
 use Rattle.wdf_base.specs.Calls.{is_release}
 use Rattle.wdf_model.specs.parts.Locks.{held_by_call}
@@ -72,13 +71,15 @@ use Rattle.law_lint.proofs.Grips.{LaterAt, at_same}
 use Rattle.law_lint.proofs.Others.{event_later, is_owners_call}
 use Rattle.law_lint.proofs.Stands.{FrameGoes, FrameStands, InHand, Stands, fewer_stand, goes_stands, is_on_request, stays_later}
 use Rattle.law_lint.proofs.Calming.{event_calms}
-use Rattle.law_lint.proofs.Events.{top_there, told}
+use Rattle.law_lint.proofs.Events.{told}
 use Rattle.law_lint.proofs.Flags.{flags_same}
 use Rattle.law_lint.proofs.Owning.{Calms, grip_later, hand_before, own_answered}
 use Rattle.law_lint.proofs.Frames.{Simulates}
 use Rattle.law_lint.proofs.Framework.{FramesSame}
 use Rattle.law_lint.proofs.Dids.{still_goes}
 use Rattle.wdf_model.specs.parts.Requests.{request_of}
+use Rattle.law_machine_counts.proofs.Releases.{none_named}
+use Rattle.law_machine_lives.proofs.ReasonsOfEvents.{top_on}
 
 -- ---- what a frame is about to do doesn't depend on what it waits for
 
@@ -164,7 +165,7 @@ waiting_stands {A} plan m S k c h free st =
     let d : IsWaiting plan S k.0 c = waiting_tells plan m S k c h in
     let f = d.frame in
     let frame : Frame = frame_of S.cpus f in
-    let there : 1 ≤ on S.cpus f = top_there S.cpus k.0 f d.about.top in
+    let there : 1 ≤ on S.cpus f = top_on S.cpus k.0 f d.about.top in
     let fs : FrameStands plan S f (st.states f) = st.stands f there in
     let off = waits_for_none plan S c.kind c.count c.a c.b c.c d.unmet in
     let v : Value = (outcome plan S k.0 f c).answer in
@@ -263,9 +264,6 @@ popped_frames C cpu f t once x more =
     let apart : x ≢ f = λ same. (let one : flag (f == x) ≡ 1 = ap flag (equal f x (sym same)) in let o = once x in let q : ⊥ = omega arith in q) in
     (omega arith, ap (λ (s : Option ℕ). (entry no_frame (without_frame C s) x).frame) t ∙ ap (λ (r : Running). r.frame) (entry_put_other no_frame C.frames f x no_frame apart))
 
-holds_none : (n : ℕ) → nat_lt 0 n ≡ false → n ≡ 0
-holds_none n h = grind (arith, nat_tests)
-
 -- the locks that calls took stay where a callback ends
 ended_locks : {A : Type 0} (plan : Plan) (S : State A) (cpu : ℕ) (c : Callback) (o : Handle) (v : Value) → IsEnd plan S cpu c o v → FreeState plan S → (g : ℕ) → Left S.locks (do_deeds plan (end_deeds plan S cpu c o.id.0 v) S).locks g
 ended_locks {A} plan S cpu c o v d free g = by (lock_of_callback plan c o.id.0 (declared_in plan S o.id.0)) refl (row_of c).rank
@@ -276,8 +274,8 @@ ended_locks {A} plan S cpu c o v d free g = by (lock_of_callback plan c o.id.0 (
     by : (l : Option LockRef) → lock_of_callback plan c o.id.0 (declared_in plan S o.id.0) ≡ l → (r : Rank) → Left S.locks (do_deeds plan (release_if_any l ++ PopFrame (cpu_of cpu) ∷ end_of_step plan S r c o.id.0 v) S).locks g
     by None e rank.Sequence = left_same S.locks S.locks g refl
     by None e _ = left_same S.locks S.locks g refl
-    by (Some l) e rank.Sequence = ended_left S.locks l d.frame g free.once (free.agrees.holds d.frame (λ z. z) (top_there S.cpus cpu d.frame d.about.top) l (own ∙ e))
-    by (Some l) e _ = ended_left S.locks l d.frame g free.once (free.agrees.holds d.frame (λ z. z) (top_there S.cpus cpu d.frame d.about.top) l (own ∙ e))
+    by (Some l) e rank.Sequence = ended_left S.locks l d.frame g free.once (free.agrees.holds d.frame (λ z. z) (top_on S.cpus cpu d.frame d.about.top) l (own ∙ e))
+    by (Some l) e _ = ended_left S.locks l d.frame g free.once (free.agrees.holds d.frame (λ z. z) (top_on S.cpus cpu d.frame d.about.top) l (own ∙ e))
 
 pub end_stands : {A : Type 0} (plan : Plan) (m : Meaning A) (S : State A) (k : Cpu) (c : Callback) (o : Handle) (v : Value) → may plan m S (event.End k c o v) ≡ true → FreeState plan S → Stands plan S → Stands plan (after plan m S (event.End k c o v))
 end_stands plan m S k c o v h free st =
@@ -287,7 +285,7 @@ end_stands plan m S k c o v h free st =
     (subst (λ (C : Cpus). FramesSame S.cpus C) (sym (ended_cpus plan S k.0 c o.id.0 v (lock_of_callback plan c o.id.0 (declared_in plan S o.id.0)) (row_of c).rank)) (popped_frames S.cpus k.0 d.frame d.about.top once))
     (λ x old. event_later plan S (event.End k c o v) x refl (event_fits plan m S (event.End k c o v) h) free.places old) (ended_locks plan S k.0 c o v d free)
     (λ x none. elim (one_or_two x d.frame) [
-      | inl e ↦ inl (ap (held_by_call S.locks) e ∙ holds_none (held_by_call S.locks d.frame) (d.about.clean fault.ReturnHoldingLock))
+      | inl e ↦ inl (ap (held_by_call S.locks) e ∙ none_named (held_by_call S.locks d.frame) (d.about.clean fault.ReturnHoldingLock))
       | inr n ↦
           let gone : on (cpus.pop S.cpus k.0) x ≡ 0 = sym (ap (λ (C : Cpus). on C x) (ended_cpus plan S k.0 c o.id.0 v (lock_of_callback plan c o.id.0 (declared_in plan S o.id.0)) (row_of c).rank)) ∙ none in
           let count = popped (λ y. y == x) S.cpus k.0 d.frame d.about.top in

@@ -5,10 +5,7 @@ use Rattle.wdf_base.specs.declared.plan.Plan.{Plan}
 use Rattle.wdf_base.specs.declared.event.Event.{Event}
 use Rattle.wdf_base.specs.declared.object.Kind.{Kind}
 use Rattle.wdf_base.specs.declared.object.Kind.TheVariants as kind
-use Rattle.wdf_base.specs.declared.object.Place.{Place}
-use Rattle.wdf_base.specs.declared.object.Place.TheVariants as place
 use Rattle.wdf_base.specs.declared.object.Life.TheVariants as life
-use Rattle.wdf_base.specs.declared.object.RequestInfo.{RequestInfo}
 use Rattle.wdf_base.specs.declared.call.Callback.{Callback}
 use Rattle.wdf_base.specs.declared.call.Callback.TheVariants as callback
 use Rattle.wdf_base.specs.declared.declared.Declared.{Declared}
@@ -28,7 +25,7 @@ use Rattle.wdf_model.specs.parts.Control as control
 use Rattle.wdf_model.specs.State.{State, is_with_driver, opening}
 use Rattle.wdf_model.specs.declared.deed.Deed.{Deed}
 use Rattle.wdf_model.specs.declared.deed.Deed.TheVariants.{Create, MakeRequest, Arrive, AskDeletion, Refer, Unrefer, WriteCell, Note, CleanUp, EndLife, Requeue, Forward, GiveBack, SendRequest, CompleteRequest, PurgeQueue, CloseReturning, CloseDevice}
-use Rattle.wdf_model.specs.rules.Deeds.{arrive_at, ask_object, ask_objects, close_queue, close_returning, do_deed, do_deeds, give_up, give_up_if, withdraw}
+use Rattle.wdf_model.specs.rules.Deeds.{ask_object, ask_objects, close_queue, close_returning, do_deed, do_deeds, give_up, give_up_if, withdraw}
 use Rattle.wdf_model.specs.rules.Faults.{is_never_deleted, is_request_kind}
 use Rattle.wdf_model.specs.rules.Steps.{after, deeds, may}
 use Rattle.wdf_model.specs.rules.Ready.{IsRunOf, ready, state_after}
@@ -42,6 +39,7 @@ use Rattle.wdf_model.proofs.Counts.{one_or_two}
 use Rattle.law_machine_base.proofs.Deletion.{object_live, object_off}
 use Rattle.law_machine_base.proofs.Follows.{follows, state_goes_on}
 use Rattle.law_machine_base.proofs.FitsOfEvents.{event_fits}
+use Rattle.law_machine_counts.proofs.Arrived.{arrived_tree}
 
 -- ---- kinds that stay
 
@@ -115,10 +113,6 @@ all_closed : {A : Type 0} (qs : List ℕ) (S : State A) → (fold close_queue S 
 all_closed [] S = refl
 all_closed (q ∷ qs) S = all_closed qs (close_queue S q)
 
-arrived : {A : Type 0} (S : State A) (device : ℕ) (info : RequestInfo) (p : Place) → (arrive_at S device info p).tree ≡ tree.arrive S.tree device
-arrived S device info (place.Queued q) = refl
-arrived S device info _ = refl
-
 same_tree : (T U : Tree) → U ≡ T → KindsStay T U
 same_tree T U e = subst (λ (V : Tree). KindsStay T V) (sym e) (λ o h. refl)
 
@@ -128,7 +122,7 @@ deed_kinds : {A : Type 0} (plan : Plan) (d : Deed) (S : State A) → fits plan d
 deed_kinds plan (Create k class parent) S f =
     object_made S.tree k class parent.0 (undeclared k (not_true (is_never_deleted k) (both_right (is_live (life_of S.tree parent.0) && not (is_full S.tree) && not (is_request_kind k)) (not (is_never_deleted k)) f)))
 deed_kinds plan (MakeRequest class parent) S f = object_made S.tree kind.Made class parent.0 refl
-deed_kinds plan (Arrive device info p) S f = subst (λ (V : Tree). KindsStay S.tree V) (sym (arrived S device.0 info p)) (object_made S.tree kind.Request 0 device.0 refl)
+deed_kinds plan (Arrive device info p) S f = subst (λ (V : Tree). KindsStay S.tree V) (sym (arrived_tree S device.0 info p)) (object_made S.tree kind.Request 0 device.0 refl)
 deed_kinds plan (AskDeletion o) S f = all_asked (subtree S.tree o.0) S
 deed_kinds plan (Refer o) S f = object_changes S.tree o.0 (λ n. record n { references = n.references + 1 }) (λ n h. refl)
 deed_kinds plan (Unrefer o) S f = object_changes S.tree o.0 (λ n. record n { references = n.references - 1 }) (λ n h. refl)

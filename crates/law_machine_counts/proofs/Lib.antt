@@ -1,3 +1,6 @@
+pub mod Sames
+pub mod Arrived
+pub mod Undone
 pub mod Totals
 pub mod Forgotten
 pub mod Holding

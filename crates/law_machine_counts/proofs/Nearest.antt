@@ -1,5 +1,5 @@
 -- The nearest device of an object stays what it was where neither the object nor what is above it ends.
-use Rattle.std.proofs.Common.{if◌then◌else◌, ◌≡◌, ◌≢◌, ℕ, suc, ◌+◌, ◌<◌, ◌≤◌, Bool, true, false, List, [], ◌∷◌, ◌++◌, ◌⊎◌, inl, inr, length, refl, ap, sym, ◌∙◌, arith, length-append}
+use Rattle.std.proofs.Common.{if◌then◌else◌, ◌≡◌, ◌≢◌, ℕ, suc, ◌+◌, ◌<◌, ◌≤◌, Bool, true, false, List, [], ◌∷◌, ◌++◌, ◌⊎◌, inl, inr, length, refl, ap, sym, ◌∙◌, subst, arith, length-append}
 use Rattle.wdf_base.specs.declared.object.Kind.TheVariants as kind
 use Rattle.wdf_base.specs.Same.{same_kind}
 use Rattle.wdf_model.specs.declared.entries.Node.{Node}
@@ -57,3 +57,23 @@ module _ (Fine : ℕ → Type 0) where
       fine_j (one_or_two j (length before)))
       (λ i within fine_i. let e : length (before ++ x ∷ []) + i ≡ length before + suc i = omega arith in alike (suc i) (omega arith) (rw e at fine_i))
       (omega arith) o fine (omega arith)
+
+-- ---- nearest devices are numbers of a table
+
+either_below : (n : ℕ) (b : Bool) (x y : ℕ) → x < n → y < n → (if b then x else y) < n
+either_below n true x y h k = h
+either_below n false x y h k = k
+
+one_more : (n : ℕ) (before : List ℕ) (x : ℕ) → x < n → ((o : ℕ) → entry 1 before o < n) → (o : ℕ) → entry 1 (before ++ x ∷ []) o < n
+one_more n before x h each o = elim (one_or_two o (length before)) [
+  | inl e ↦ rw e (subst (λ y. y < n) (sym (entry_last 1 before x)) h)
+  | inr d ↦ subst (λ y. y < n) (sym (entry_before 1 before x o d)) (each o)
+]
+
+pub nearest_below : (n : ℕ) (before : List ℕ) (ns : List Node) → length before + length ns ≤ n → ((o : ℕ) → entry 1 before o < n) → (o : ℕ) → entry 1 (nearest_devices before ns) o < n
+nearest_below n before [] fits each o = each o
+nearest_below n before (m ∷ ns) fits each o =
+    let x : ℕ = own_device before (length before) m in
+    let here : length before < n = omega (arith, fits) in
+    let long : length (before ++ x ∷ []) ≡ length before + 1 = length-append before (x ∷ []) in
+    nearest_below n (before ++ x ∷ []) ns (omega (arith, fits, long)) (one_more n before x (either_below n (same_kind m.kind kind.Device) (length before) (entry 1 before m.parent.0) here (each m.parent.0)) each) o

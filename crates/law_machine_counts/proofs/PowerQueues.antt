@@ -37,6 +37,14 @@ released_queues : (P : Power) (r : ℕ) (b : Bool) → (if b then power.held_les
 released_queues P r true = refl
 released_queues P r false = refl
 
+pub held_devices : (P : Power) (r q : ℕ) (b : Bool) → (if b then power.held_more P r q else P).devices ≡ P.devices
+held_devices P r q true = refl
+held_devices P r q false = refl
+
+pub released_devices : (P : Power) (r : ℕ) (b : Bool) → (if b then power.held_less P r else P).devices ≡ P.devices
+released_devices P r true = refl
+released_devices P r false = refl
+
 given_up_queues : {A : Type 0} (S : State A) (r : ℕ) (b : Bool) (Q : Queues) → (if b then record S { queues = Q; power = release_power S.power r } else S).power.queues ≡ S.power.queues
 given_up_queues S r true Q = released_queues S.power r (is_held (holding_of S.power r))
 given_up_queues S r false Q = refl
@@ -96,7 +104,7 @@ deed_queues plan (CloseDevice d) S = closed_queues (queues_of plan d.0) (record 
 deed_queues plan (AdvancePower d s) S = step_queues S.power d.0 s
 deed_queues plan _ S = refl
 
-deeds_queues : {A : Type 0} (plan : Plan) (ds : List Deed) (S : State A) → (do_deeds plan ds S).power.queues ≡ S.power.queues
+pub deeds_queues : {A : Type 0} (plan : Plan) (ds : List Deed) (S : State A) → (do_deeds plan ds S).power.queues ≡ S.power.queues
 deeds_queues plan [] S = refl
 deeds_queues plan (d ∷ ds) S = deeds_queues plan ds (do_deed plan d S) ∙ deed_queues plan d S
 

@@ -61,7 +61,7 @@ pub record Notes (P P' : Power) (r q : ℕ) : Type 0 where
   pub others : (x : ℕ) → x ≢ r → (holding_of P' x).queue.0 ≡ (holding_of P x).queue.0
   pub here : (holding_of P' r).queue.0 ≡ q
 
-none_named : (n : ℕ) → nat_lt 0 n ≡ false → n ≡ 0
+pub none_named : (n : ℕ) → nat_lt 0 n ≡ false → n ≡ 0
 none_named n h = grind (arith, nat_tests)
 
 released_by : (P : Power) (r : ℕ) (b : Bool) → is_held (holding_of P r) ≡ b → Notes P (if b then power.held_less P r else P) r 0

@@ -1,5 +1,5 @@
 -- The law on steps and their frames, at each place of every run.
-use Rattle.std.proofs.Common.{if◌then◌else◌, ◌≡◌, ℕ, zero, suc, ◌+◌, ◌==◌, Bool, true, false, List, [], ◌∷◌, ◌⊎◌, inl, inr, Option, Some, None, is_some, map, take, replicate, count_by, refl, ap, sym, subst, ◌∙◌, arith}
+use Rattle.std.proofs.Common.{if◌then◌else◌, ◌≡◌, ℕ, zero, suc, ◌+◌, ◌==◌, Bool, true, false, List, [], ◌∷◌, ◌⊎◌, inl, inr, Option, Some, None, is_some, map, take, replicate, count_by, length, refl, ap, sym, subst, ◌∙◌, ◌≤◌, arith}
 use Rattle.std.specs.List.{flat_map}
 use Rattle.wdf_base.specs.Meaning.{Meaning}
 use Rattle.wdf_base.specs.declared.plan.Plan.{Plan}
@@ -10,7 +10,7 @@ use Rattle.wdf_base.specs.declared.event.Event.TheVariants as event
 use Rattle.wdf_base.specs.Lives.{is_gone}
 use Rattle.law_machine_base.specs.OverRuns.{FramesAgree}
 use Rattle.wdf_model.specs.Tables.{entry, flag}
-use Rattle.wdf_model.specs.Plans.{declared_ids, device_of, devices_of}
+use Rattle.wdf_model.specs.Plans.{as_device, declared_ids, device_of, devices_of}
 use Rattle.wdf_model.specs.parts.Tree.{declared_node, gone, life_of, opening_tree, parent_of}
 use Rattle.wdf_model.specs.parts.Cpus.{all_frames, frame_of, opening_cpus}
 use Rattle.wdf_model.specs.parts.Pnp.{is_running_step, no_sequence, opening_sequence}
@@ -28,6 +28,7 @@ use Rattle.law_machine_counts.proofs.HeldOverRuns.{each_passes}
 use Rattle.law_machine_counts.proofs.Framed.{Framed}
 use Rattle.law_machine_counts.proofs.StepStates.{StepsIn}
 use Rattle.law_machine_counts.proofs.StepTable.{event_keeps_steps, tick_keeps_steps}
+use Rattle.std.proofs.lemmas.Option.{slice_get_past}
 
 -- ---- the opening
 
@@ -37,6 +38,11 @@ no_stacks p (suc n) = let e = count_behind p [] (flat_map (λ (fs : List ℕ). f
 
 pub none_yet : (plan : Plan) (p : ℕ → Bool) → count_by p (all_frames (opening_cpus plan)) ≡ 0
 none_yet plan p = let e = count_behind p (flat_map (λ (fs : List ℕ). fs) (replicate plan.cpus [])) [] in let none = no_stacks p plan.cpus in omega arith
+
+-- past the declared objects there is no device
+pub no_device : (plan : Plan) (x : ℕ) → suc (length plan.declared) ≤ x → device_of plan x ≡ None
+no_device plan zero h = absurd (omega arith)
+no_device plan (suc x) h = ap as_device (slice_get_past plan.declared x (omega arith))
 
 rests : (plan : Plan) (d : ℕ) (i : Option DeviceInfo) → (opening_sequence plan d i).running ≡ None
 rests plan d None = refl
@@ -56,7 +62,7 @@ pub opening_hollow : (plan : Plan) (o : ℕ) → is_gone (life_of (opening_tree 
 opening_hollow plan zero h = refl
 opening_hollow plan (suc o) h = declared_stand plan.declared o h
 
-opening_steps : {A : Type 0} (plan : Plan) (m : Meaning A) → StepsIn 0 0 (opening plan m)
+pub opening_steps : {A : Type 0} (plan : Plan) (m : Meaning A) → StepsIn 0 0 (opening plan m)
 opening_steps plan m = record {
   number = refl;
   framed = record {

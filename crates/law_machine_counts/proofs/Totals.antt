@@ -1,8 +1,12 @@
 -- How many of the ids from one on pass a test, and what a change at one id makes of that.
-use Rattle.std.proofs.Common.{◌≡◌, ◌≢◌, ℕ, zero, suc, ◌+◌, ◌<◌, ◌≤◌, Bool, ◌⊎◌, inl, inr, count_by, refl, ap, arith}
+use Rattle.std.proofs.Common.{◌≡◌, ◌≢◌, ℕ, zero, suc, ◌+◌, ◌<◌, ◌≤◌, Bool, ◌⊎◌, inl, inr, count_by, refl, ap, true, false, arith}
 use Rattle.std.specs.List.{range_with_len}
 use Rattle.wdf_model.proofs.Counts.{count_cons, one_or_two}
 use Rattle.wdf_model.specs.Tables.{flag}
+
+pub flagged : (b : Bool) → 1 ≤ flag b → b ≡ true
+flagged true h = refl
+flagged false h = absurd (omega arith)
 
 pub same_total : (p p' : ℕ → Bool) (a n : ℕ) → ((x : ℕ) → a ≤ x → p' x ≡ p x) → count_by p' (range_with_len a n) ≡ count_by p (range_with_len a n)
 same_total p p' a zero h = refl

@@ -11,13 +11,15 @@ use Rattle.wdf_base.specs.Same.{same_kind}
 use Rattle.wdf_base.specs.Lives.{is_cleaned, is_gone}
 use Rattle.wdf_model.specs.declared.entries.Node.{Node}
 use Rattle.wdf_model.specs.Tables.{entry, flag}
-use Rattle.wdf_model.specs.parts.Tree.{Tree, children, gone, is_child, life_of, may_destroy, nearest_device, new_node, node_of, parent_of, with_node}
+use Rattle.wdf_model.specs.parts.Tree.{Tree, children, gone, is_child, life_of, may_destroy, nearest_device, new_node, node_of, noted, parent_of, with_node}
 use Rattle.wdf_model.specs.parts.Tree as tree
 use Rattle.wdf_model.proofs.Maps.{entry_before, entry_last, entry_put_other, entry_put_same, put_long}
 use Rattle.wdf_model.proofs.Tests.{both, both_left, both_right}
 use Rattle.wdf_model.proofs.Counts.{equal, one_or_two}
 use Rattle.law_machine_counts.proofs.Totals.{counts_it}
 use Rattle.law_machine_counts.proofs.Nearest.{Alike, nearest_stays}
+use Rattle.wdf_base.specs.declared.call.Callback.{Callback}
+use Rattle.wdf_base.specs.declared.call.Callback.TheVariants as callback
 
 -- the id 0 is no object's, and what is gone has it as parent
 pub record Rooted (T : Tree) : Type 0 where
@@ -101,15 +103,19 @@ tree_grows T k class parent =
       };
     }
 
+pub noted_references : (c : Callback) (n : Node) → (noted c n).references ≡ n.references
+noted_references callback.EvtDestroyCallback n = refl
+noted_references _ n = refl
+
 -- ---- an object ends
 
 pub cleaned_there : (l : Life) → is_cleaned l ≡ true → is_gone l ≡ false
 cleaned_there life.Gone h = absurd (let z : ⊥ = cc in z)
 cleaned_there _ h = refl
 
-no_children : (n : ℕ) → (n == 0) ≡ true → 1 ≤ n → ⊥
-no_children zero e h = omega arith
-no_children (suc n) e h = let same : suc n ≡ 0 = eqb-true (suc n) 0 e in omega arith
+pub none_not_some : (n : ℕ) → (n == 0) ≡ true → 1 ≤ n → ⊥
+none_not_some zero e h = omega arith
+none_not_some (suc n) e h = let same : suc n ≡ 0 = eqb-true (suc n) 0 e in omega arith
 
 -- no object is below what may end
 childless : (T : Tree) (x i : ℕ) → Rooted T → may_destroy T x ≡ true → i < length T.nodes → parent_of T i ≢ x
@@ -127,7 +133,7 @@ childless T x i r h within = λ e.
           let counted = counts_it (is_child T x) i 0 (length T.nodes) (omega arith) (omega arith) in
           let number : length (children T x) ≡ count_by (is_child T x) (range_with_len 0 (length T.nodes)) = length-filter (is_child T x) (range_with_len 0 (length T.nodes)) in
           let one : flag (is_child T x i) ≡ 1 = ap flag it in
-          no_children (length (children T x)) none (omega arith)
+          none_not_some (length (children T x)) none (omega arith)
     ]
 
 pub tree_loses : (T : Tree) (x : ℕ) → Rooted T → may_destroy T x ≡ true → (o : ℕ) → o ≢ x → o < length T.nodes → nearest_device (tree.destroy T x) o ≡ nearest_device T o

@@ -42,7 +42,7 @@ or_turned true false = refl
 or_turned false true = refl
 or_turned false false = refl
 
-or_together : (a b c : Bool) → (a || (b || c)) ≡ ((a || b) || c)
+pub or_together : (a b c : Bool) → (a || (b || c)) ≡ ((a || b) || c)
 or_together true b c = refl
 or_together false b c = refl
 

@@ -32,9 +32,10 @@ use Rattle.law_machine_lives.specs.Agreements.{CleanedInOrder}
 use Rattle.law_machine_lives.proofs.Keeping.{deeds_keep, each_place}
 use Rattle.law_machine_lives.proofs.Stays.{gives_up}
 use Rattle.law_machine_lives.proofs.Lists.{all_of_kept, inside, reads_same}
-use Rattle.law_machine_lives.proofs.Readers.{arrived_tree, tree_of}
+use Rattle.law_machine_lives.proofs.Readers.{tree_of}
 use Rattle.law_machine_lives.proofs.Lives.{asked_early, noted_kept}
 use Rattle.law_machine_lives.proofs.PartsStay.{tree_stays}
+use Rattle.law_machine_counts.proofs.Arrived.{arrived_tree}
 
 -- what isn't past its cleanup has no cleaned parent
 abbrev pub InOrder : Tree → Type 0

@@ -27,7 +27,7 @@ held_there : {A : Type 0} (plan : Plan) (S : State A) (f : ℕ) (o : Option Held
 held_there plan S f None is e = absurd (let z : ⊥ = cc in z)
 held_there plan S f (Some h) is e = let same : h.frame.0 ≡ f = cc in subst (λ x. 1 ≤ on S.cpus x) same (is h refl).0
 
-holder_there : {A : Type 0} (plan : Plan) (S : State A) → Framing plan S → (l : LockRef) (f : ℕ) → holder S.locks l ≡ Some f → 1 ≤ on S.cpus f
+pub holder_there : {A : Type 0} (plan : Plan) (S : State A) → Framing plan S → (l : LockRef) (f : ℕ) → holder S.locks l ≡ Some f → 1 ≤ on S.cpus f
 holder_there plan S k l f e = held_there plan S f (hold_of S.locks l) (λ x h. found (IsHeld plan S) (λ h. same_lock h.lock l) x S.locks.held k.held h) e
 
 pub locks_agree_at_each : {A : Type 0} (plan : Plan) (m : Meaning A) (run : List Event) → IsRunOf plan m run → (n : ℕ) → LocksAgree (state_after plan m (take n run))

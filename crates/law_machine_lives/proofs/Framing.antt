@@ -1,6 +1,6 @@
 -- At each place of every run a frame's object isn't gone, and a lock is held by a frame that is there.
 use Rattle.std.proofs.Common.{◌≡◌, ◌≢◌, ℕ, ◌==◌, ◌≤◌, nat_lt, Bool, true, false, not, ◌&&◌, List, [], ◌∷◌, inl, inr, Option, Some, None, length, filter, count_by, take, refl, sym, ap, subst, ◌∙◌, arith}
-use Rattle.std.proofs.lemmas.Bool.{cases_Bool, eqb-true}
+use Rattle.std.proofs.lemmas.Bool.{cases_Bool}
 use Rattle.std.proofs.lemmas.Bool.Decides.{nat_tests}
 use Rattle.std.proofs.lemmas.List.Sums.{length-filter}
 use Rattle.wdf_base.specs.Meaning.{Meaning}
@@ -39,6 +39,7 @@ use Rattle.law_machine_lives.proofs.FramesStay.{Begins, FramesGoOn, NoneEnds, fr
 use Rattle.law_machine_lives.proofs.PartsStay.{locks_stay}
 use Rattle.law_machine_counts.proofs.StepsOverRuns.{none_yet}
 use Rattle.wdf_model.proofs.FrameCounts.{on, seen}
+use Rattle.law_machine_counts.proofs.Trees.{none_not_some}
 
 -- a lock is held by a frame that is there; one that no call took is that of the frame's callback
 abbrev pub IsHeld : {A : Type 0} → Plan → State A → Held → Type 0
@@ -95,15 +96,11 @@ locks_by plan d S = locks_stay plan d S refl
 
 -- ---- each deed
 
--- no frame is on an object that ends
-no_frames : (n : ℕ) → (n == 0) ≡ true → 1 ≤ n → ⊥
-no_frames n e h = let same : n ≡ 0 = eqb-true n 0 e in omega arith
-
 pub off_it : (C : Cpus) (o f : ℕ) → nobody_on C o ≡ true → 1 ≤ on C f → (frame_of C f).object.id.0 ≡ o → ⊥
 off_it C o f none more e =
     let some = seen (is_on C o) f (all_frames C) more (equal (frame_of C f).object.id.0 o e) in
     let number : length (filter (is_on C o) (all_frames C)) ≡ count_by (is_on C o) (all_frames C) = length-filter (is_on C o) (all_frames C) in
-    no_frames (length (filter (is_on C o) (all_frames C))) none (omega arith)
+    none_not_some (length (filter (is_on C o) (all_frames C))) none (omega arith)
 
 objects_by : {A : Type 0} (plan : Plan) (d : Deed) (S : State A) → fits plan d S ≡ true → Framing plan S → ObjectsStay S (do_deed plan d S)
 objects_by plan (EndLife o) S fit k f more = deed_there plan (EndLife o) S fit (object_of S f) (off_it S.cpus o.0 f (both_right (may_destroy S.tree o.0) (nobody_on S.cpus o.0) fit) more) (k.there f more)
@@ -198,10 +195,10 @@ holds_none plan S k cpu c o v d =
 opens : {A : Type 0} (plan : Plan) (m : Meaning A) → Framing plan (opening plan m)
 opens plan m = record { there = λ f more. absurd (let e = none_yet plan (λ x. x == f) in omega arith); held = tt }
 
-told : {A : Type 0} (plan : Plan) (m : Meaning A) (e : Event) (S : State A) → Framing plan S → Framing plan (counted m e S)
+pub told : {A : Type 0} (plan : Plan) (m : Meaning A) (e : Event) (S : State A) → Framing plan S → Framing plan (counted m e S)
 told plan m e S k = record { there = k.there; held = k.held }
 
-deeds_frame : {A : Type 0} (plan : Plan) (ds : List Deed) (S : State A) → all_fit plan ds S ≡ true → AllSound plan ds S → Framing plan S → Framing plan (do_deeds plan ds S)
+pub deeds_frame : {A : Type 0} (plan : Plan) (ds : List Deed) (S : State A) → all_fit plan ds S ≡ true → AllSound plan ds S → Framing plan S → Framing plan (do_deeds plan ds S)
 deeds_frame plan [] S h s k = k
 deeds_frame plan (d ∷ ds) S h s k =
     deeds_frame plan ds (do_deed plan d S) (both_right (fits plan d S) (all_fit plan ds (do_deed plan d S)) h) s.1

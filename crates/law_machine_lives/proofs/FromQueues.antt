@@ -46,8 +46,9 @@ use Rattle.wdf_base.specs.Places.{is_marked, is_owned, is_queued_in, is_returnin
 use Rattle.wdf_model.specs.rules.Ready.{ready, state_after}
 use Rattle.wdf_model.proofs.Runs.{run_opens}
 use Rattle.law_machine_base.proofs.LawsOverRuns.{history_now}
-use Rattle.law_machine_lives.proofs.Readers.{arrived_requests, requests_of}
+use Rattle.law_machine_lives.proofs.Readers.{requests_of}
 use Rattle.law_machine_counts.proofs.HeldOverRuns.{placed}
+use Rattle.law_machine_counts.proofs.Arrived.{arrived_requests}
 
 -- where an arrived request is only after it came from a queue
 abbrev came_from : Place → Bool

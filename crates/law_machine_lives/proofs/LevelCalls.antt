@@ -165,12 +165,12 @@ module _ {A : Type 0} (plan : Plan) (S : State A) (f : ℕ) (there : 1 ≤ on S.
 
 -- ---- a callback that takes its object's lock isn't one of a spin lock
 
-not_interrupt : (c : ClassInfo) → same_kind (class_kind c) kind.Interrupt ≡ false
+pub not_interrupt : (c : ClassInfo) → same_kind (class_kind c) kind.Interrupt ≡ false
 not_interrupt (class.Plain name plain.Object) = refl
 not_interrupt (class.Deferred name deferred.Dpc parent serialize period) = refl
 not_interrupt _ = refl
 
-class_unlike : (o : Option ClassInfo) → same_option same_kind (option_map class_kind o) (Some kind.Interrupt) ≡ true → ⊥
+pub class_unlike : (o : Option ClassInfo) → same_option same_kind (option_map class_kind o) (Some kind.Interrupt) ≡ true → ⊥
 class_unlike None h = let z : ⊥ = cc in z
 class_unlike (Some c) h = let no_ = not_interrupt c in let z : ⊥ = cc in z
 

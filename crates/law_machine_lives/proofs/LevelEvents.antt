@@ -86,7 +86,7 @@ idle_by : {A : Type 0} (plan : Plan) (m : Meaning A) (S : State A) (cpu f : ℕ)
 idle_by plan m S cpu f None e k a r v h s = refl
 idle_by plan m S cpu f (Some p) e k a r v h s = absurd (woken_apart S cpu p e k a r v (is_met S p.call) h s)
 
-found_own : (found : Option Event) (e : Event) → same_option same_event found (Some e) ≡ true → (x : Event) × (found ≡ Some x) × (same_event x e ≡ true)
+pub found_own : (found : Option Event) (e : Event) → same_option same_event found (Some e) ≡ true → (x : Event) × (found ≡ Some x) × (same_event x e ≡ true)
 found_own None e h = absurd (let z : ⊥ = cc in z)
 found_own (Some x) e h = (x, refl, h)
 
@@ -99,7 +99,7 @@ idle_at plan m S cpu a r v h f t =
 
 -- ---- calls
 
-early_life : (l : Life) → (is_gone l || (is_cleaned l && true)) ≡ false → is_past_cleanup l ≡ false
+pub early_life : (l : Life) → (is_gone l || (is_cleaned l && true)) ≡ false → is_past_cleanup l ≡ false
 early_life life.Live h = refl
 early_life life.Asked h = refl
 early_life life.Cleaned h = absurd (let z : ⊥ = cc in z)

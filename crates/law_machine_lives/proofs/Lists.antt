@@ -1,13 +1,16 @@
 -- Ids of a range, filtered and tested; entries that aren't blank.
-use Rattle.std.proofs.Common.{if◌then◌else◌, ◌≡◌, ℕ, zero, suc, ◌+◌, ◌<◌, ◌≤◌, Bool, true, false, List, [], ◌∷◌, ◌++◌, inl, inr, length, filter, refl, ap, sym, ◌∙◌, arith}
+use Rattle.std.proofs.Common.{if◌then◌else◌, ◌≡◌, ℕ, zero, suc, ◌+◌, ◌<◌, ◌≤◌, Bool, true, false, List, [], ◌∷◌, ◌++◌, inl, inr, length, filter, refl, ap, sym, ◌∙◌, ◌==◌, None, Option, Some, not, slice_get, subst, arith}
 use Rattle.std.specs.Prelude.{⊤}
 use Rattle.std.specs.List.{list_all, range_with_len}
 use Rattle.wdf_model.specs.declared.entries.Node.{Node}
 use Rattle.wdf_model.specs.Tables.{entry}
 use Rattle.wdf_model.specs.parts.Tree.{Tree, gone, node_of, with_node}
 use Rattle.wdf_model.proofs.Maps.{entry_put_other, entry_put_same}
-use Rattle.wdf_model.proofs.Tests.{both_left, both_right}
+use Rattle.wdf_model.proofs.Tests.{both_left, both_right, not_false}
 use Rattle.wdf_model.proofs.Counts.{one_or_two}
+use Rattle.wdf_base.specs.declared.event.Step.{Step}
+use Rattle.wdf_base.specs.Same.{same_option}
+use Rattle.std.proofs.lemmas.Bool.{eqb-true}
 
 -- ---- entries
 
@@ -16,6 +19,12 @@ pub inside : {T : Type 0} (blank : T) (p : T → Bool) (xs : List T) (id : ℕ) 
 inside blank p [] id off h = absurd (let z : ⊥ = cc in z)
 inside blank p (x ∷ xs) zero off h = omega arith
 inside blank p (x ∷ xs) (suc id) off h = let rest : id < length xs = inside blank p xs id off h in omega arith
+
+-- where all pass a test, the one at a place does
+pub all_at : {T : Type 0} (p : T → Bool) (xs : List T) (k : ℕ) (x : T) → list_all p xs ≡ true → slice_get xs k ≡ Some x → p x ≡ true
+all_at p [] k x h at = absurd (let z : ⊥ = cc in z)
+all_at p (y ∷ ys) zero x h at = let same : y ≡ x = cc in subst (λ z. p z ≡ true) same (both_left (p y) (list_all p ys) h)
+all_at p (y ∷ ys) (suc k) x h at = all_at p ys k x (both_right (p y) (list_all p ys) h) at
 
 -- what is read of each object where one changes and that stays
 pub reads_same : {X : Type 0} (reads : Node → X) (T : Tree) (o : ℕ) (f : Node → Node) → reads (f (node_of T o)) ≡ reads (node_of T o) → (x : ℕ)
@@ -63,3 +72,15 @@ kept_of P keep x xs false e h rest = rest
 pub each_kept : {T : Type 0} (P Q : T → Type 0) (keep : T → Bool) → ((x : T) → P x → keep x ≡ true → Q x) → (xs : List T) → Each P xs → Each Q (filter keep xs)
 each_kept P Q keep h [] e = tt
 each_kept P Q keep h (x ∷ xs) e = kept_of Q keep x xs (keep x) refl (h x e.0) (each_kept P Q keep h xs e.1)
+
+-- ---- steps
+
+pub none_left : (ss : List Step) → not (length ss == 0) ≡ false → ss ≡ []
+none_left [] x = refl
+none_left (s ∷ ss) x = let e : length (s ∷ ss) ≡ 0 = eqb-true (length (s ∷ ss)) 0 (not_false (length (s ∷ ss) == 0) x) in absurd (omega arith)
+
+-- ---- numbers
+
+pub some_number : (o : Option ℕ) (n : ℕ) → same_option ◌==◌ o (Some n) ≡ true → o ≡ Some n
+some_number None n h = absurd (let z : ⊥ = cc in z)
+some_number (Some x) n h = ap Some (eqb-true x n h)

@@ -33,9 +33,10 @@ use Rattle.law_machine_lives.proofs.Subtrees.{asked_below, is_asked_with, kept_t
 use Rattle.law_machine_lives.proofs.Keeping.{deeds_keep, each_place}
 use Rattle.law_machine_lives.proofs.Stays.{gives_up}
 use Rattle.law_machine_lives.proofs.Lists.{inside, reads_same}
-use Rattle.law_machine_lives.proofs.Readers.{arrived_tree, tree_of}
+use Rattle.law_machine_lives.proofs.Readers.{tree_of}
 use Rattle.law_machine_lives.proofs.Lives.{asked_off, cleaned_off, noted_kept}
 use Rattle.law_machine_lives.proofs.PartsStay.{tree_stays}
+use Rattle.law_machine_counts.proofs.Arrived.{arrived_tree}
 
 -- what is live has a live parent, or none, and that is older
 pub record Lives (T : Tree) : Type 0 where

@@ -11,8 +11,9 @@ use Rattle.wdf_model.specs.State.{State}
 use Rattle.wdf_model.specs.declared.deed.Deed.{Deed}
 use Rattle.wdf_model.specs.declared.deed.Deed.TheVariants.{Arrive, AskDeletion, CleanUp, CloseDevice, CloseReturning, CompleteRequest, Create, EndLife, Forward, GiveBack, GoOn, Lower, MakeRequest, Note, ParkFrame, PopFrame, PurgeQueue, PushFrame, Raise, Refer, ReleaseLock, Requeue, SendRequest, TakeLock, UnparkFrame, Unrefer, WriteCell}
 use Rattle.wdf_model.specs.rules.Deeds.{do_deed, give_up}
-use Rattle.law_machine_lives.proofs.Readers.{arrived_cpus, arrived_locks, cpus_of, locks_of, tree_of}
+use Rattle.law_machine_lives.proofs.Readers.{cpus_of, locks_of, tree_of}
 use Rattle.law_machine_lives.proofs.Stays.{asks_all, gives_up, gives_up_if, queues_closed, returns_closed, withdraws}
+use Rattle.law_machine_counts.proofs.Arrived.{arrived_cpus, arrived_locks}
 
 abbrev pub reaches_tree : Deed → Bool
 reaches_tree (Create k class parent) = true

@@ -3,13 +3,9 @@ use Rattle.std.proofs.Common.{◌≡◌, ℕ, true, false, refl, if◌then◌els
 use Rattle.wdf_base.specs.declared.object.Place.{Place}
 use Rattle.wdf_base.specs.declared.object.Place.TheVariants as place
 use Rattle.wdf_base.specs.declared.object.Mark.TheVariants as marks
-use Rattle.wdf_base.specs.Places.{is_done, is_returning_to, is_sent}
+use Rattle.wdf_base.specs.Places.{is_done, is_sent}
 use Rattle.wdf_model.specs.parts.Requests.{is_in, with_mark}
 use Rattle.wdf_model.specs.declared.entries.Request.{Request}
-
-pub returning_undone : (q : ℕ) (p : Place) → is_returning_to q p ≡ true → is_done p ≡ false
-returning_undone q place.Done h = absurd (let z : ⊥ = cc in z)
-returning_undone q _ h = refl
 
 pub inside_undone : (q : ℕ) (p : Place) → is_in q p ≡ true → is_done p ≡ false
 inside_undone q place.Done h = absurd (let z : ⊥ = cc in z)

@@ -43,10 +43,11 @@ use Rattle.law_machine_lives.proofs.Framing.{Framing, framing_by, locks_by, off_
 use Rattle.law_machine_lives.proofs.Counted.{called, height, is_called, same_of_each}
 use Rattle.law_machine_lives.proofs.Leveled.{EarlyIfCalled, IsEarly, Leveled, awaited, object_at}
 use Rattle.law_machine_lives.proofs.QuietDeeds.{all_quiet, is_quiet_deed}
-use Rattle.law_machine_lives.proofs.Readers.{arrived_tree, tree_of}
+use Rattle.law_machine_lives.proofs.Readers.{tree_of}
 use Rattle.law_machine_lives.proofs.Lives.{early_there, noted_life}
 use Rattle.law_machine_lives.proofs.PartsStay.{cpus_stay, tree_stays}
 use Rattle.wdf_model.proofs.FrameCounts.{on}
+use Rattle.law_machine_counts.proofs.Arrived.{arrived_tree}
 
 abbrev pub LeveledIn : {A : Type 0} → Plan → State A → Type 0
 LeveledIn plan S = Leveled plan S.cpus S.locks S.tree
@@ -83,13 +84,13 @@ abbrev Cleans : Deed → ℕ → Type 0
 Cleans (CleanUp o) x = x ≡ o.0
 Cleans _ x = ⊥
 
-cleaned_past : (l : Life) → is_cleaned l ≡ true → is_past_cleanup l ≡ true
+pub cleaned_past : (l : Life) → is_cleaned l ≡ true → is_past_cleanup l ≡ true
 cleaned_past life.Cleaned h = refl
 cleaned_past life.Gone h = refl
 cleaned_past life.Live h = absurd (let z : ⊥ = cc in z)
 cleaned_past life.Asked h = absurd (let z : ⊥ = cc in z)
 
-ended_apart : {A : Type 0} (S : State A) (o x : ℕ) → destroy_ready S o ≡ true → is_past_cleanup (life_of S.tree x) ≡ false → x ≢ o
+pub ended_apart : {A : Type 0} (S : State A) (o x : ℕ) → destroy_ready S o ≡ true → is_past_cleanup (life_of S.tree x) ≡ false → x ≢ o
 ended_apart S o x f h e =
     let done : is_cleaned (life_of S.tree o) ≡ true = search both_left in
     let past : is_past_cleanup (life_of S.tree x) ≡ true = ap (λ y. is_past_cleanup (life_of S.tree y)) e ∙ cleaned_past (life_of S.tree o) done in

@@ -1,17 +1,10 @@
--- Parts of a state, and what they are after an arrival.
-use Rattle.std.proofs.Common.{◌≡◌, ℕ, refl}
-use Rattle.wdf_base.specs.declared.object.Place.{Place}
-use Rattle.wdf_base.specs.declared.object.Place.TheVariants as place
-use Rattle.wdf_base.specs.declared.object.RequestInfo.{RequestInfo}
-use Rattle.wdf_model.specs.parts.Tree.{Tree, next_id}
+-- Parts of a state.
+use Rattle.wdf_model.specs.parts.Tree.{Tree}
 use Rattle.wdf_model.specs.State.{State}
 use Rattle.wdf_model.specs.parts.Requests.{Requests}
 use Rattle.wdf_model.specs.parts.Cpus.{Cpus}
 use Rattle.wdf_model.specs.parts.Locks.{Locks}
 use Rattle.wdf_model.specs.parts.Power.{Power}
-use Rattle.wdf_model.specs.parts.Tree as tree
-use Rattle.wdf_model.specs.rules.Deeds.{arrive_at}
-use Rattle.wdf_model.specs.parts.Requests as requests
 
 abbrev pub tree_of : {A : Type 0} → State A → Tree
 tree_of S = S.tree
@@ -27,23 +20,3 @@ locks_of S = S.locks
 
 abbrev pub power_of : {A : Type 0} → State A → Power
 power_of S = S.power
-
-pub arrived_tree : {A : Type 0} (S : State A) (device : ℕ) (info : RequestInfo) (p : Place) → (arrive_at S device info p).tree ≡ tree.arrive S.tree device
-arrived_tree S device info (place.Queued q) = refl
-arrived_tree S device info _ = refl
-
-pub arrived_requests : {A : Type 0} (S : State A) (device : ℕ) (info : RequestInfo) (p : Place) → (arrive_at S device info p).requests ≡ requests.arrive S.requests (next_id S.tree) p info
-arrived_requests S device info (place.Queued q) = refl
-arrived_requests S device info _ = refl
-
-pub arrived_locks : {A : Type 0} (S : State A) (device : ℕ) (info : RequestInfo) (p : Place) → (arrive_at S device info p).locks ≡ S.locks
-arrived_locks S device info (place.Queued q) = refl
-arrived_locks S device info _ = refl
-
-pub arrived_power : {A : Type 0} (S : State A) (device : ℕ) (info : RequestInfo) (p : Place) → (arrive_at S device info p).power ≡ S.power
-arrived_power S device info (place.Queued q) = refl
-arrived_power S device info _ = refl
-
-pub arrived_cpus : {A : Type 0} (S : State A) (device : ℕ) (info : RequestInfo) (p : Place) → (arrive_at S device info p).cpus ≡ S.cpus
-arrived_cpus S device info (place.Queued q) = refl
-arrived_cpus S device info _ = refl

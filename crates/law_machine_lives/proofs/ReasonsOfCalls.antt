@@ -48,7 +48,7 @@ abbrev pub call_of : CallKind → ℕ → Arg → Arg → Arg → Call
 call_of k n a b x = record { kind = k; count = n; a = a; b = b; c = x }
 
 -- an object of the kind Interrupt is a declared one
-interrupt_by : (d : Option Declared) → option_and_then declared_kind d ≡ Some kind.Interrupt → is_some (as_interrupt d) ≡ true
+pub interrupt_by : (d : Option Declared) → option_and_then declared_kind d ≡ Some kind.Interrupt → is_some (as_interrupt d) ≡ true
 interrupt_by (Some (declared.Interrupt i)) h = refl
 interrupt_by _ h = absurd (let z : ⊥ = cc in z)
 

@@ -20,9 +20,10 @@ use Rattle.law_machine_base.proofs.Deletion.{object_live, object_off}
 use Rattle.law_machine_counts.proofs.StillFrames.{asked_there, live_there}
 use Rattle.law_machine_lives.proofs.Stays.{gives_up}
 use Rattle.law_machine_lives.proofs.Lists.{reads_same}
-use Rattle.law_machine_lives.proofs.Readers.{arrived_tree, tree_of}
+use Rattle.law_machine_lives.proofs.Readers.{tree_of}
 use Rattle.law_machine_lives.proofs.Lives.{noted_same}
 use Rattle.law_machine_lives.proofs.PartsStay.{tree_stays}
+use Rattle.law_machine_counts.proofs.Arrived.{arrived_tree}
 
 -- an object that is there is there still, and what it was
 pub record StaysAt (T U : Tree) (x : ℕ) : Type 0 where

@@ -100,13 +100,13 @@ request_of_start _ = 0
 
 -- ---- answers that are there
 
-some_is : {T : Type 0} (x y : T) → Some x ≡ Some y → x ≡ y
+pub some_is : {T : Type 0} (x y : T) → Some x ≡ Some y → x ≡ y
 some_is x y h = cc
 
-none_is : {T : Type 0} (y : T) → None ≡ Some y → ⊥
+pub none_is : {T : Type 0} (y : T) → None ≡ Some y → ⊥
 none_is y h = let z : ⊥ = cc in z
 
-if_some : {T : Type 0} (b : Bool) (x y : T) → (if b then Some x else None) ≡ Some y → x ≡ y
+pub if_some : {T : Type 0} (b : Bool) (x y : T) → (if b then Some x else None) ≡ Some y → x ≡ y
 if_some true x y h = some_is x y h
 if_some false x y h = absurd (none_is y h)
 
@@ -151,15 +151,15 @@ module _ {A : Type 0} (plan : Plan) (m : Meaning A) (S : State A) where
 
 -- ---- starts
 
-dpc_rank : (k : Kind) → (row_of (dpc_function k)).rank ≡ rank.Deferred
+pub dpc_rank : (k : Kind) → (row_of (dpc_function k)).rank ≡ rank.Deferred
 dpc_rank kind.Interrupt = refl
 dpc_rank _ = refl
 
-typed_rank : (f : RequestForm) → (row_of (typed_handler f)).rank ≡ rank.Handler
+pub typed_rank : (f : RequestForm) → (row_of (typed_handler f)).rank ≡ rank.Handler
 typed_rank form.Read = refl
 typed_rank _ = refl
 
-handler_by : (f : RequestForm) (a b : Bool) (c : Callback) → (if a then Some (typed_handler f) else if b then Some callback.EvtIoDefault else None) ≡ Some c → (row_of c).rank ≡ rank.Handler
+pub handler_by : (f : RequestForm) (a b : Bool) (c : Callback) → (if a then Some (typed_handler f) else if b then Some callback.EvtIoDefault else None) ≡ Some c → (row_of c).rank ≡ rank.Handler
 handler_by f true b c h = ap (λ x. (row_of x).rank) (sym (some_is (typed_handler f) c h)) ∙ typed_rank f
 handler_by f false b c h = ap (λ x. (row_of x).rank) (sym (if_some b callback.EvtIoDefault c h))
 

@@ -17,9 +17,6 @@ use Rattle.wdf_base.specs.declared.call.Callback.TheVariants as callback
 use Rattle.wdf_base.specs.declared.rank.Rank.TheVariants as rank
 use Rattle.wdf_base.specs.declared.value.Value.{Value}
 use Rattle.wdf_base.specs.declared.declared.DeviceInfo.{DeviceInfo}
-use Rattle.wdf_base.specs.declared.object.Place.{Place}
-use Rattle.wdf_base.specs.declared.object.Place.TheVariants as place
-use Rattle.wdf_base.specs.declared.object.RequestInfo.{RequestInfo}
 use Rattle.wdf_base.specs.Callbacks.{row_of}
 use Rattle.wdf_base.specs.Same.{same_callback}
 use Rattle.wdf_model.specs.declared.enums.Mode.TheVariants as mode
@@ -36,7 +33,7 @@ use Rattle.wdf_model.specs.parts.Pnp as pnp
 use Rattle.wdf_model.specs.State.{State}
 use Rattle.wdf_model.specs.declared.deed.Deed.{Deed}
 use Rattle.wdf_model.specs.declared.deed.Deed.TheVariants.{Arrive, AskDeletion, Requeue, Forward, GiveBack, SendRequest, CompleteRequest, PurgeQueue, CloseReturning, CloseDevice, AskDevice, TakeStep, EndStep}
-use Rattle.wdf_model.specs.rules.Deeds.{arrive_at, do_deed, give_up}
+use Rattle.wdf_model.specs.rules.Deeds.{do_deed, give_up}
 use Rattle.wdf_model.specs.rules.Ready.{IsRunOf, state_after}
 use Rattle.wdf_model.proofs.Counts.{one_or_two}
 use Rattle.wdf_model.proofs.Maps.{entry_put_other, entry_put_same}
@@ -48,6 +45,7 @@ use Rattle.wdf_model.proofs.Sames.{callback_decides}
 use Rattle.wdf_base.specs.Stages.{is_for_interrupt}
 use Rattle.law_machine_once.specs.Owned.{IsStepOf, StepsOwned}
 use Rattle.law_machine_once.proofs.OnceEach.{each_of_all, each_image}
+use Rattle.law_machine_counts.proofs.Arrived.{arrived_pnp}
 
 -- ---- what the lists of steps are made of
 
@@ -236,15 +234,11 @@ one_changes plan Q d f keeps h = record {
 pnp_of : {A : Type 0} → State A → Pnp
 pnp_of S = S.pnp
 
-arrived : {A : Type 0} (S : State A) (device : ℕ) (info : RequestInfo) (p : Place) → (arrive_at S device info p).pnp ≡ S.pnp
-arrived S device info (place.Queued q) = refl
-arrived S device info _ = refl
-
 same_steps : (plan : Plan) (v w : Pnp) → w ≡ v → OwnSteps plan v → OwnSteps plan w
 same_steps plan v w e k = subst (OwnSteps plan) (sym e) k
 
 steps_by : {A : Type 0} (plan : Plan) (d : Deed) (S : State A) → OwnSteps plan S.pnp → OwnSteps plan (do_deed plan d S).pnp
-steps_by plan (Arrive device info p) S q = same_steps plan _ _ (arrived S device.0 info p) q
+steps_by plan (Arrive device info p) S q = same_steps plan _ _ (arrived_pnp S device.0 info p) q
 steps_by {A} plan (AskDeletion o) S q = same_steps plan _ _ (asks_all (λ (U : State A). U.pnp) (λ S T D W U. refl) (subtree S.tree o.0) S) q
 steps_by {A} plan (Requeue r p) S q = same_steps plan _ _ (gives_up (λ (U : State A). U.pnp) (λ S Q R P. refl) S r.0) q
 steps_by {A} plan (Forward r p) S q = same_steps plan _ _ (gives_up (λ (U : State A). U.pnp) (λ S Q R P. refl) S r.0) q

@@ -13,7 +13,8 @@ use Rattle.law_machine_once.specs.Owned.{StepsOwned}
 use Rattle.law_machine_places.specs.Placed.{IsAmong, has_place}
 use Rattle.law_machine_places.proofs.Found.{found}
 use Rattle.law_machine_places.proofs.Listed.{has_its_place}
-use Rattle.law_machine_places.proofs.Members.{among_of, has_kept, has_of, was_there}
+use Rattle.law_machine_places.proofs.Members.{has_of, was_there}
+use Rattle.law_stuck_causes.proofs.Members.{among_of, has_kept}
 
 module _ {A : Type 0} (plan : Plan) (m : Meaning A) (S : State A) (e : Event) (agree : PlacesAgree S) (owned : StepsOwned plan S) where
   pub is_among : (may plan m S e && has_place plan S e) ≡ true → IsAmong e (allowed plan m S)

@@ -44,11 +44,13 @@ use Rattle.wdf_model.specs.rules.Starts.{callback_over, clean_ready, destroy_rea
 use Rattle.wdf_model.specs.rules.Steps.{is_closing_with, is_cpu, is_own_event, is_proper_if_any, may, may_unpark, own_event, wait_is_over, waits_on}
 use Rattle.wdf_model.proofs.Sames.{callback_decides, did_same, end_same, status_decides, waiting_same, woke_same}
 use Rattle.wdf_model.proofs.Tests.{both_left, both_right}
-use Rattle.law_stuck_causes.proofs.Members.{Has, at_of, has_flat, has_range}
+use Rattle.law_stuck_causes.proofs.Members.{Has, at_of, has_flat, has_image, has_kept, has_range}
 use Rattle.law_stuck_causes.proofs.Needs.{cpu_group, framework_group, placed_at}
 use Rattle.law_machine_places.specs.Placed.{device_of_step, has_place, has_queue, has_start, has_start_for, has_target, is_declared_id, is_step_on}
-use Rattle.law_machine_places.proofs.Members.{Passing, counted_at, found_at, has_image, has_kept}
-use Rattle.law_machine_places.proofs.Rows.{canceled_only, cancel_only, cleanup_only, completion_only, destroy_only, fault_same, id_is, isr_only, local_same, log_same, option_handle_is, pass_is, post_is, register_same, resume_only, some_same, spend_same, state_only, stop_only, timer_only, work_only}
+use Rattle.law_machine_places.proofs.Members.{Passing, counted_at, found_at}
+use Rattle.law_machine_places.proofs.Rows.{canceled_only, cancel_only, cleanup_only, completion_only, destroy_only, isr_only, post_is, resume_only, some_same, state_only, stop_only, timer_only, work_only}
+use Rattle.law_machine_counts.proofs.Sames.{fault_same, local_same, log_same, option_handle_is, pass_is, register_same, spend_same}
+use Rattle.law_machine_counts.proofs.StepTable.{top_is}
 
 -- ---- the groups of a processor
 
@@ -124,7 +126,7 @@ module _ {A : Type 0} (plan : Plan) (m : Meaning A) (S : State A) where
       let within : o < declared_end plan = ltb-true o (declared_end plan) (both_right (is_some (interrupt_of plan o)) (is_declared_id plan o) has) in
       rw (isr_only c is) (listed cpu rank.Isr o (starts plan S cpu callback.EvtInterruptIsr o) low (inl refl) within (rw there refl))
   start_found cpu c o rank.Deferred low is ready has =
-      let head : dpc_head S.dpcs cpu ≡ Some o = id_is (dpc_head S.dpcs cpu) o ready in
+      let head : dpc_head S.dpcs cpu ≡ Some o = top_is (dpc_head S.dpcs cpu) o ready in
       let same : c ≡ dpc_function (kind_of S.tree o) = (callback_decides c (dpc_function (kind_of S.tree o))).0 has in
       rw same (listed cpu rank.Deferred 0 (starts plan S cpu (dpc_function (kind_of S.tree o)) o) low (inl refl) (omega arith) (rw head refl))
   start_found cpu c o rank.Timed low is ready has = rw (timer_only c is) (timer_start cpu o (timed_of S.timers o) low refl (both_left (timer_due S.timers o S.clock) (nobody_on S.cpus o) ready))
@@ -165,7 +167,7 @@ module _ {A : Type 0} (plan : Plan) (m : Meaning A) (S : State A) where
   start_for_found agree cpu c o r rank.Handler low is ready has =
       let presented = both_left (not (is_manual_queue plan o) && queue_delivers plan S o && is_free S.queues o && same_id (front S.queues o) r) (same_option same_callback (handler_for plan o (info_of S.requests r).form) (Some c)) ready in
       let handled = both_right (not (is_manual_queue plan o) && queue_delivers plan S o && is_free S.queues o && same_id (front S.queues o) r) (same_option same_callback (handler_for plan o (info_of S.requests r).form) (Some c)) ready in
-      let first : front S.queues o ≡ Some r = id_is (front S.queues o) r (both_right (not (is_manual_queue plan o) && queue_delivers plan S o && is_free S.queues o) (same_id (front S.queues o) r) presented) in
+      let first : front S.queues o ≡ Some r = top_is (front S.queues o) r (both_right (not (is_manual_queue plan o) && queue_delivers plan S o && is_free S.queues o) (same_id (front S.queues o) r) presented) in
       listed cpu rank.Handler o (starts_for plan S cpu c o r) low (inl refl) (ltb-true o (declared_end plan) has)
       (handler_found cpu c o r first (some_same same_callback (λ x y. (callback_decides x y).0) (handler_for plan o (info_of S.requests r).form) c handled))
   start_for_found agree cpu c o r rank.Completion low is ready has =
@@ -230,7 +232,7 @@ module _ {A : Type 0} (plan : Plan) (m : Meaning A) (S : State A) where
   found agree (event.Fault cpu x n) comes has = own_found cpu (event.Fault cpu x n) (λ y h. fault_same y cpu x n h) comes has
   found agree (event.Park cpu f) comes has =
       let leaves = both_left (same_id (top S.cpus cpu.0) f.0 && irql S.cpus cpu.0 == 0) (waits_on S (frame_of S.cpus f.0).pending) comes in
-      let first : top S.cpus cpu.0 ≡ Some f.0 = id_is (top S.cpus cpu.0) f.0 (both_left (same_id (top S.cpus cpu.0) f.0) (irql S.cpus cpu.0 == 0) leaves) in
+      let first : top S.cpus cpu.0 ≡ Some f.0 = top_is (top S.cpus cpu.0) f.0 (both_left (same_id (top S.cpus cpu.0) f.0) (irql S.cpus cpu.0 == 0) leaves) in
       cpu_group plan m S cpu.0 (group.Parks cpu.0) (event.Park cpu f) (ltb-true cpu.0 plan.cpus has) (inr (inl refl))
       (placed_at plan m S (group.Parks cpu.0) 1 0 (event.Park cpu f) (omega arith) (ap (option_map (parks cpu.0)) first))
   found agree (event.Unpark cpu f) comes has =

@@ -22,12 +22,8 @@ use Rattle.wdf_base.specs.declared.frame.Frame.{Frame}
 use Rattle.wdf_base.specs.declared.frame.Intent.{Intent}
 use Rattle.wdf_base.specs.declared.frame.Intent.TheVariants as intent
 use Rattle.wdf_base.specs.declared.frame.Pending.{Pending}
-use Rattle.wdf_base.specs.declared.object.Kind.{Kind}
-use Rattle.wdf_base.specs.declared.object.Kind.TheVariants as kind
 use Rattle.wdf_base.specs.declared.object.Place.{Place}
 use Rattle.wdf_base.specs.declared.object.Place.TheVariants as place
-use Rattle.wdf_base.specs.declared.object.RequestForm.{RequestForm}
-use Rattle.wdf_base.specs.declared.object.RequestForm.TheVariants as form
 use Rattle.wdf_base.specs.declared.plan.Plan.{Plan}
 use Rattle.wdf_base.specs.declared.rank.Rank.{Rank}
 use Rattle.wdf_base.specs.declared.rank.Rank.TheVariants as rank
@@ -56,7 +52,9 @@ use Rattle.wdf_model.proofs.Tests.{both, itself}
 use Rattle.law_stuck_causes.proofs.Members.{Has, below_range}
 use Rattle.law_machine_once.specs.Owned.{IsStepOf, StepsOwned}
 use Rattle.law_machine_places.specs.Placed.{device_of_step, has_place, has_queue, has_start, has_start_for, has_target, is_declared_id, is_step_on}
-use Rattle.law_machine_places.proofs.Members.{chosen_at, either_of, given_by, image_of, was_there}
+use Rattle.law_machine_places.proofs.Members.{chosen_at, given_by, image_of, was_there}
+use Rattle.law_machine_once.proofs.Places.{dpc_rank, handler_by, if_some, none_is, some_is}
+use Rattle.law_stuck_causes.proofs.Gives.{has_either}
 
 -- ---- which groups a plan has
 
@@ -114,7 +112,7 @@ last_group plan g (inr (inr (inr (inr (inr h))))) = absurd h
 
 group_there : (plan : Plan) (g : Group) → Has g (groups plan) → is_plan_group plan g ≡ true
 group_there plan g h =
-    elim (either_of g (flat_map (groups_of_cpu plan) (range_with_len 0 plan.cpus)) (group.Stages ∷ group.Completions ∷ group.Cleanups ∷ group.Destroys ∷ group.Posts ∷ []) h) as (λ _. is_plan_group plan g ≡ true) [
+    elim (has_either g (flat_map (groups_of_cpu plan) (range_with_len 0 plan.cpus)) (group.Stages ∷ group.Completions ∷ group.Cleanups ∷ group.Destroys ∷ group.Posts ∷ []) h) as (λ _. is_plan_group plan g ≡ true) [
       | inl k ↦
           let one = given_by (groups_of_cpu plan) g (range_with_len 0 plan.cpus) k in
           let below : one.from < 0 + plan.cpus = below_range one.from 0 plan.cpus one.there in
@@ -123,12 +121,6 @@ group_there plan g h =
     ]
 
 -- ---- answers that are there
-
-some_is : {T : Type 0} (x y : T) → Some x ≡ Some y → x ≡ y
-some_is x y h = cc
-
-none_is : {T : Type 0} (y : T) → None ≡ Some y → ⊥
-none_is y h = let z : ⊥ = cc in z
 
 record Mapped {X Y : Type 0} (f : X → Y) (o : Option X) (e : Y) : Type 0 where
   from : X
@@ -155,23 +147,6 @@ record There (b : Bool) (x e : Event) : Type 0 where
 there_is : (b : Bool) (x e : Event) → if_there b x ≡ Some e → There b x e
 there_is true x e h = record { yes_it_is = refl; gives = some_is x e h }
 there_is false x e h = absurd (none_is e h)
-
-if_some : {T : Type 0} (b : Bool) (x y : T) → (if b then Some x else None) ≡ Some y → x ≡ y
-if_some true x y h = some_is x y h
-if_some false x y h = absurd (none_is y h)
-
-dpc_rank : (k : Kind) → (row_of (dpc_function k)).rank ≡ rank.Deferred
-dpc_rank kind.Interrupt = refl
-dpc_rank _ = refl
-
-typed_rank : (f : RequestForm) → (row_of (typed_handler f)).rank ≡ rank.Handler
-typed_rank form.Read = refl
-typed_rank form.Write = refl
-typed_rank form.Control = refl
-
-handler_rank : (f : RequestForm) (a b : Bool) (c : Callback) → (if a then Some (typed_handler f) else if b then Some callback.EvtIoDefault else None) ≡ Some c → (row_of c).rank ≡ rank.Handler
-handler_rank f true b c h = ap (λ x. (row_of x).rank) (sym (some_is (typed_handler f) c h)) ∙ typed_rank f
-handler_rank f false b c h = ap (λ x. (row_of x).rank) (sym (if_some b callback.EvtIoDefault c h))
 
 -- ---- devices and interrupts
 
@@ -255,7 +230,7 @@ module _ {A : Type 0} (plan : Plan) (m : Meaning A) (S : State A) (owned : Steps
       let q = mapped_is (λ c. starts_for plan S cpu c k p.from) (handler_for plan k (info_of S.requests p.from).form) e p.gives in
       rw (← q.gives)
       (for_rank cpu q.from k p.from rank.Handler
-      (handler_rank (info_of S.requests p.from).form (declares plan (typed_handler (info_of S.requests p.from).form) k) (declares plan callback.EvtIoDefault k) q.from q.there) (lt-ltb k (declared_end plan) low))
+      (handler_by (info_of S.requests p.from).form (declares plan (typed_handler (info_of S.requests p.from).form) k) (declares plan callback.EvtIoDefault k) q.from q.there) (lt-ltb k (declared_end plan) low))
   start_placed cpu rank.Sequence k e low h = let p = then_is (start_of_step plan S cpu k) (next_step S.pnp k) e h in step_placed cpu k p.from e low p.there (owned.next k p.from p.there) p.gives
   start_placed cpu rank.Work k e low h = let p = mapped_is (λ o. starts plan S cpu callback.EvtWorkItem o) (slice_get S.work_items.queued k) e h in rw (← p.gives) refl
   start_placed cpu rank.Cleanup k e low h = rw (← some_is (starts plan S cpu callback.EvtCleanupCallback k) e h) (lt-ltb k (places_of_rank plan S rank.Cleanup) low)

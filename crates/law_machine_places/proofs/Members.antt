@@ -1,15 +1,11 @@
 -- What is in a list, and where.
-use Rattle.std.proofs.Common.{if◌then◌else◌, ◌≡◌, ◌⊎◌, inl, inr, ℕ, zero, suc, ◌+◌, ◌<◌, ◌≤◌, Bool, true, false, List, [], ◌∷◌, ◌++◌, length, filter, find, map, count_by, slice_get, Option, Some, None, refl, sym, ap, ◌∙◌, arith}
+use Rattle.std.proofs.Common.{if◌then◌else◌, ◌≡◌, ◌⊎◌, inl, inr, ℕ, zero, suc, ◌+◌, ◌<◌, ◌≤◌, Bool, true, false, List, [], ◌∷◌, length, filter, find, map, count_by, slice_get, Option, Some, None, refl, sym, ap, ◌∙◌, arith}
 use Rattle.std.specs.Prelude.{filter_map}
 use Rattle.std.specs.List.{flat_map, range_with_len}
 use Rattle.wdf_model.specs.Tables.{flag}
 use Rattle.wdf_model.proofs.Counts.{count_cons}
 use Rattle.law_stuck_causes.proofs.Members.{Has}
-
-pub among_of : {T : Type 0} (x : T) (xs : List T) → Has x xs → (k : ℕ) × (slice_get xs k ≡ Some x)
-among_of x [] h = absurd h
-among_of x (y ∷ ys) (inl e) = (0, ap Some (sym e))
-among_of x (y ∷ ys) (inr h) = let more = among_of x ys h in (suc more.0, more.1)
+use Rattle.law_stuck_causes.proofs.Gives.{has_either}
 
 pub has_of : {T : Type 0} (x : T) (xs : List T) (k : ℕ) → slice_get xs k ≡ Some x → Has x xs
 has_of x [] k at = absurd (let z : ⊥ = cc in z)
@@ -17,17 +13,6 @@ has_of x (y ∷ ys) zero at = inl (let s : x ≡ y = cc in s)
 has_of x (y ∷ ys) (suc k) at = inr (has_of x ys k at)
 
 -- ---- filtered
-
-kept_has : {T : Type 0} (p : T → Bool) (x y : T) (ys : List T) (b : Bool) → p y ≡ b → p x ≡ true → (x ≡ y) ⊎ Has x ys → (Has x ys → Has x (filter p ys)) → Has x (if b then y ∷ filter p ys else filter p ys)
-kept_has p x y ys true e h (inl s) rest = inl s
-kept_has p x y ys true e h (inr k) rest = inr (rest k)
-kept_has p x y ys false e h (inl s) rest = let same : p x ≡ p y = ap p s in absurd (let z : ⊥ = cc in z)
-kept_has p x y ys false e h (inr k) rest = rest k
-
--- what passes is still there
-pub has_kept : {T : Type 0} (p : T → Bool) (x : T) (xs : List T) → Has x xs → p x ≡ true → Has x (filter p xs)
-has_kept p x [] k h = absurd k
-has_kept p x (y ∷ ys) k h = kept_has p x y ys (p y) refl h k (λ j. has_kept p x ys j h)
 
 was_by : {T : Type 0} (p : T → Bool) (x y : T) (ys : List T) (b : Bool) → p y ≡ b → Has x (if b then y ∷ filter p ys else filter p ys) → (Has x (filter p ys) → Has x ys × (p x ≡ true)) → ((x ≡ y) ⊎ Has x ys) × (p x ≡ true)
 was_by p x y ys true e (inl s) rest = (inl s, ap p s ∙ e)
@@ -41,11 +26,6 @@ was_there p x (y ∷ ys) h = was_by p x y ys (p y) refl h (was_there p x ys)
 
 -- ---- mapped and gathered
 
-pub has_image : {T U : Type 0} (f : T → U) (x : T) (xs : List T) → Has x xs → Has (f x) (map f xs)
-has_image f x [] h = absurd h
-has_image f x (y ∷ ys) (inl e) = inl (ap f e)
-has_image f x (y ∷ ys) (inr h) = inr (has_image f x ys h)
-
 -- what an image is of
 pub record Image {T U : Type 0} (f : T → U) (y : U) (xs : List T) : Type 0 where
   pub from : T
@@ -57,14 +37,6 @@ image_of f y [] h = absurd h
 image_of f y (x ∷ xs) (inl e) = record { from = x; there = inl refl; is = e }
 image_of f y (x ∷ xs) (inr h) = let more = image_of f y xs h in record { from = more.from; there = inr more.there; is = more.is }
 
-pub either_of : {T : Type 0} (x : T) (xs ys : List T) → Has x (xs ++ ys) → Has x xs ⊎ Has x ys
-either_of x [] ys h = inr h
-either_of x (y ∷ xs) ys (inl e) = inl (inl e)
-either_of x (y ∷ xs) ys (inr h) = elim (either_of x xs ys h) as (λ _. Has x (y ∷ xs) ⊎ Has x ys) [
-  | inl k ↦ inl (inr k)
-  | inr k ↦ inr k
-]
-
 -- what one of the items gives
 pub record Given {T U : Type 0} (f : T → List U) (y : U) (xs : List T) : Type 0 where
   pub from : T
@@ -73,7 +45,7 @@ pub record Given {T U : Type 0} (f : T → List U) (y : U) (xs : List T) : Type 
 
 pub given_by : {T U : Type 0} (f : T → List U) (y : U) (xs : List T) → Has y (flat_map f xs) → Given f y xs
 given_by f y [] h = absurd h
-given_by f y (x ∷ xs) h = elim (either_of y (f x) (flat_map f xs) h) as (λ _. Given f y (x ∷ xs)) [
+given_by f y (x ∷ xs) h = elim (has_either y (f x) (flat_map f xs) h) as (λ _. Given f y (x ∷ xs)) [
   | inl k ↦ record { from = x; there = inl refl; gives = k }
   | inr k ↦ let more = given_by f y xs k in record { from = more.from; there = inr more.there; gives = more.gives }
 ]

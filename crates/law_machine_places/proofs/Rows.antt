@@ -1,30 +1,18 @@
 -- The ranks that one callback has, and what tests of equality say.
-use Rattle.std.proofs.Common.{◌≡◌, ◌==◌, ℕ, Bool, true, ◌&&◌, Option, Some, None, refl, ap, rules}
+use Rattle.std.proofs.Common.{◌≡◌, ◌==◌, Bool, true, ◌&&◌, Option, Some, None, refl, ap, rules}
 use Rattle.std.specs.Bool.{Decides}
 use Rattle.std.proofs.lemmas.Bool.{eqb-true}
 use Rattle.wdf_base.specs.Callbacks.{row_of}
-use Rattle.wdf_base.specs.Same.{same_access, same_action, same_ask, same_event, same_fault, same_handle, same_option, same_post, same_stage, same_status, same_step}
+use Rattle.wdf_base.specs.Same.{same_action, same_ask, same_handle, same_option, same_post, same_status}
 use Rattle.wdf_base.specs.declared.call.Callback.{Callback}
 use Rattle.wdf_base.specs.declared.call.Callback.TheVariants as callback
-use Rattle.wdf_base.specs.declared.event.Access.{Access}
-use Rattle.wdf_base.specs.declared.event.Event.{Event}
-use Rattle.wdf_base.specs.declared.event.Event.TheVariants as event
-use Rattle.wdf_base.specs.declared.event.Fault.{Fault}
 use Rattle.wdf_base.specs.declared.event.Action.{Action}
-use Rattle.wdf_base.specs.declared.event.Ask.{Ask}
 use Rattle.wdf_base.specs.declared.event.Post.{Post}
 use Rattle.wdf_base.specs.declared.event.Post.TheVariants as post
-use Rattle.wdf_base.specs.declared.event.Stage.{Stage}
-use Rattle.wdf_base.specs.declared.event.Step.{Step}
-use Rattle.wdf_base.specs.declared.event.Step.TheVariants as step
-use Rattle.wdf_base.specs.declared.ids.Cpu.{Cpu}
-use Rattle.wdf_base.specs.declared.ids.Handle.{Handle}
 use Rattle.wdf_base.specs.declared.rank.Rank.TheVariants as rank
-use Rattle.wdf_base.specs.declared.value.Status.{Status}
-use Rattle.wdf_base.specs.declared.value.Value.{Value}
-use Rattle.wdf_model.specs.Tables.{same_id}
-use Rattle.wdf_model.proofs.Sames.{cpu_same, handle_same, value_same}
+use Rattle.wdf_model.proofs.Sames.{handle_same, status_decides}
 use Rattle.wdf_model.proofs.Tests.{both_left, both_right}
+use Rattle.law_machine_counts.proofs.Sames.{ask_decides}
 
 pub isr_only : (c : Callback) → (row_of c).rank ≡ rank.Isr → c ≡ callback.EvtInterruptIsr
 isr_only callback.EvtInterruptIsr h = refl
@@ -72,36 +60,9 @@ resume_only _ h = absurd (let z : ⊥ = cc in z)
 
 -- ---- tests of equality
 
-pub id_is : (x : Option ℕ) (o : ℕ) → same_id x o ≡ true → x ≡ Some o
-id_is None o h = absurd (let z : ⊥ = cc in z)
-id_is (Some x) o h = ap Some (eqb-true x o h)
-
 pub some_same : {T : Type 0} (same : T → T → Bool) → ((a b : T) → same a b ≡ true → a ≡ b) → (x : Option T) (y : T) → same_option same x (Some y) ≡ true → x ≡ Some y
 some_same same is None y h = absurd (let z : ⊥ = cc in z)
 some_same same is (Some x) y h = ap Some (is x y h)
-
-option_handle_decides : (a b : Option Handle) → Decides (same_option same_handle a b) (a ≡ b)
-option_handle_decides a b = search rules
-
-pub option_handle_is : (a b : Option Handle) → same_option same_handle a b ≡ true → a ≡ b
-option_handle_is a b h = (option_handle_decides a b).0 h
-
-stage_decides : (a b : Stage) → Decides (same_stage a b) (a ≡ b)
-stage_decides a b = search rules
-
-pub pass_is : (x : Option Step) (s : Stage) (i : Option Handle) → same_option same_step x (Some (step.Pass s i)) ≡ true → x ≡ Some (step.Pass s i)
-pass_is None s i h = absurd (let z : ⊥ = cc in z)
-pass_is (Some (step.Run c j)) s i h = absurd (let z : ⊥ = cc in z)
-pass_is (Some (step.Pass t j)) s i h =
-    let a : t ≡ s = (stage_decides t s).0 (both_left (same_stage t s) (same_option same_handle j i) h) in
-    let b : j ≡ i = option_handle_is j i (both_right (same_stage t s) (same_option same_handle j i) h) in
-    cc
-
-ask_decides : (a b : Ask) → Decides (same_ask a b) (a ≡ b)
-ask_decides a b = search rules
-
-status_decides : (a b : Status) → Decides (same_status a b) (a ≡ b)
-status_decides a b = search rules
 
 action_decides : (a b : Action) → Decides (same_action a b) (a ≡ b)
 action_decides a b = search rules
@@ -138,49 +99,3 @@ post_is (post.Done r s) (post.Done q t) h =
     let y : s ≡ t = (status_decides s t).0 (both_right (same_handle r q) (same_status s t) h) in
     cc
 post_is (post.Done r s) _ h = absurd (let z : ⊥ = cc in z)
-
-fault_decides : (a b : Fault) → Decides (same_fault a b) (a ≡ b)
-fault_decides a b = search rules
-
-access_decides : (a b : Access) → Decides (same_access a b) (a ≡ b)
-access_decides a b = search rules
-
--- ---- the events of frames
-
-pub local_same : (e : Event) (k : Cpu) (n : ℕ) → same_event e (event.Local k n) ≡ true → e ≡ event.Local k n
-local_same (event.Local l x) k n h =
-    let a : l ≡ k = cpu_same l k (search (rules, both_left)) in
-    let b : x ≡ n = search (rules, both_left, both_right) in
-    cc
-local_same _ k n h = absurd (let z : ⊥ = cc in z)
-
-pub log_same : (e : Event) (k : Cpu) (v : Value) → same_event e (event.Log k v) ≡ true → e ≡ event.Log k v
-log_same (event.Log l w) k v h =
-    let a : l ≡ k = cpu_same l k (search (rules, both_left)) in
-    let b : w ≡ v = value_same w v (search (both_left, both_right)) in
-    cc
-log_same _ k v h = absurd (let z : ⊥ = cc in z)
-
-pub spend_same : (e : Event) (k : Cpu) (n : ℕ) → same_event e (event.Spend k n) ≡ true → e ≡ event.Spend k n
-spend_same (event.Spend l x) k n h =
-    let a : l ≡ k = cpu_same l k (search (rules, both_left)) in
-    let b : x ≡ n = search (rules, both_left, both_right) in
-    cc
-spend_same _ k n h = absurd (let z : ⊥ = cc in z)
-
-pub register_same : (e : Event) (k : Cpu) (x : Access) (r n : ℕ) → same_event e (event.Register k x r n) ≡ true → e ≡ event.Register k x r n
-register_same (event.Register l y q o) k x r n h =
-    let a : l ≡ k = cpu_same l k (search (rules, both_left, both_right)) in
-    let b : y ≡ x = (access_decides y x).0 (search (both_left, both_right)) in
-    let c : q ≡ r = search (rules, both_left, both_right) in
-    let d : o ≡ n = search (rules, both_left, both_right) in
-    cc
-register_same _ k x r n h = absurd (let z : ⊥ = cc in z)
-
-pub fault_same : (e : Event) (k : Cpu) (x : Fault) (n : ℕ) → same_event e (event.Fault k x n) ≡ true → e ≡ event.Fault k x n
-fault_same (event.Fault l y o) k x n h =
-    let a : l ≡ k = cpu_same l k (search (rules, both_left, both_right)) in
-    let b : y ≡ x = (fault_decides y x).0 (search (both_left, both_right)) in
-    let d : o ≡ n = search (rules, both_left, both_right) in
-    cc
-fault_same _ k x n h = absurd (let z : ⊥ = cc in z)

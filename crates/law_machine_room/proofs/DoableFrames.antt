@@ -1,13 +1,10 @@
 -- The deeds of frames that go on, wake, end, leave their processor and come back can be done.
-use Rattle.std.proofs.Common.{◌≡◌, ℕ, ◌<◌, ◌≤◌, Bool, true, false, ◌&&◌, List, [], ◌∷◌, ◌++◌, length, fold, Option, Some, None, is_some, refl, ap, ◌∙◌, arith}
+use Rattle.std.proofs.Common.{◌≡◌, ℕ, ◌<◌, Bool, true, false, ◌&&◌, List, [], ◌∷◌, ◌++◌, length, fold, Option, Some, None, is_some, refl, ap, ◌∙◌, arith}
 use Rattle.wdf_base.specs.declared.ids.Cpu.{Cpu}
 use Rattle.wdf_base.specs.declared.ids.FrameId.{FrameId}
 use Rattle.wdf_base.specs.declared.ids.Handle.{Handle}
 use Rattle.wdf_base.specs.declared.value.Value.{Value}
 use Rattle.wdf_base.specs.declared.object.LockRef.{LockRef}
-use Rattle.wdf_base.specs.declared.object.Place.{Place}
-use Rattle.wdf_base.specs.declared.object.Place.TheVariants as place
-use Rattle.wdf_base.specs.declared.object.RequestInfo.{RequestInfo}
 use Rattle.wdf_base.specs.declared.call.Arg.{Arg}
 use Rattle.wdf_base.specs.declared.call.Call.{Call}
 use Rattle.wdf_base.specs.declared.call.CallKind.{CallKind}
@@ -21,7 +18,7 @@ use Rattle.wdf_base.specs.Callbacks.{row_of}
 use Rattle.wdf_base.specs.Lives.{is_live}
 use Rattle.wdf_model.specs.declared.enums.Mode.TheVariants as mode
 use Rattle.wdf_model.specs.declared.room.TheConstants.{EVENTS, FRAMES}
-use Rattle.wdf_model.specs.Tables.{contains, flag, same_id}
+use Rattle.wdf_model.specs.Tables.{contains, same_id}
 use Rattle.wdf_model.specs.Plans.{managed_queues, queues_of}
 use Rattle.wdf_model.specs.parts.Tree.{life_of, subtree}
 use Rattle.wdf_model.specs.parts.Cpus.{frame_of, top}
@@ -33,7 +30,7 @@ use Rattle.wdf_model.specs.State.{State, declared_in, is_with_driver}
 use Rattle.wdf_model.specs.Ids.{cpu_of, frame_id}
 use Rattle.wdf_model.specs.declared.deed.Deed.{Deed}
 use Rattle.wdf_model.specs.declared.deed.Deed.TheVariants.{Arrive, AskDeletion, Requeue, Forward, GiveBack, SendRequest, CompleteRequest, PurgeQueue, CloseReturning, CloseDevice, GoOn, PopFrame, PushFrame, ParkFrame, UnparkFrame}
-use Rattle.wdf_model.specs.rules.Deeds.{arrive_at, ask_object, close_queue, close_returning, do_deed, do_deeds, give_up, give_up_if, withdraw}
+use Rattle.wdf_model.specs.rules.Deeds.{ask_object, close_queue, close_returning, do_deed, do_deeds, give_up, give_up_if, withdraw}
 use Rattle.wdf_model.specs.rules.Calls.{is_met, second_deeds}
 use Rattle.wdf_model.specs.rules.Starts.{end_deeds, end_of_step, release_if_any}
 use Rattle.wdf_model.specs.rules.Steps.{answered, by_top, is_cpu, may_park, may_unpark, woke_deeds}
@@ -44,6 +41,7 @@ use Rattle.law_machine_counts.proofs.StillDeeds.{all_still, is_still_deed, secon
 use Rattle.wdf_model.specs.rules.Room.{AreDoable}
 use Rattle.law_machine_room.proofs.DoableDeclared.{nearest_there}
 use Rattle.law_machine_room.proofs.Doable.{Fine, cpu_there, doable_after, locks_few, stack_there, top_few, top_there}
+use Rattle.law_machine_counts.proofs.Arrived.{arrived_cpus}
 
 -- ---- still deeds leave the map of frames alone
 
@@ -78,12 +76,8 @@ closes : {A : Type 0} (qs : List ℕ) (S : State A) → (fold close_queue S qs).
 closes [] S = refl
 closes (q ∷ qs) S = closes qs (close_queue S q)
 
-arrives : {A : Type 0} (S : State A) (device : ℕ) (info : RequestInfo) (p : Place) → (arrive_at S device info p).cpus ≡ S.cpus
-arrives S device info (place.Queued q) = refl
-arrives S device info _ = refl
-
 still_frames : {A : Type 0} (plan : Plan) (d : Deed) (S : State A) → is_still_deed d ≡ true → (do_deed plan d S).cpus.frames ≡ S.cpus.frames
-still_frames plan (Arrive device info p) S h = ap (λ c. c.frames) (arrives S device.0 info p)
+still_frames plan (Arrive device info p) S h = ap (λ c. c.frames) (arrived_cpus S device.0 info p)
 still_frames plan (AskDeletion o) S h = ap (λ c. c.frames) (asks_all (subtree S.tree o.0) S)
 still_frames plan (Requeue r q) S h = ap (λ c. c.frames) (gives_up S r.0)
 still_frames plan (Forward r q) S h = ap (λ c. c.frames) (gives_up S r.0)
@@ -126,10 +120,6 @@ second_doable plan U f _ n a b x few room h = tt
 pub same_there : (o : Option ℕ) (f : ℕ) → same_id o f ≡ true → is_some o ≡ true
 same_there None f h = h
 same_there (Some g) f h = refl
-
-pub flagged : (b : Bool) → 1 ≤ flag b → b ≡ true
-flagged true h = refl
-flagged false h = absurd (omega arith)
 
 module _ {A : Type 0} {plan : Plan} {S : State A} (k : Fine plan S) where
   -- ---- a frame goes on

@@ -1,5 +1,5 @@
 -- The deeds of starts can be done.
-use Rattle.std.proofs.Common.{◌≡◌, ℕ, zero, suc, ◌+◌, ◌==◌, ◌<◌, ◌≤◌, ◌^◌, Bool, true, false, List, [], ◌∷◌, length, count_by, IfSome, Option, Some, None, is_some, option_map, slice_get, unwrap_or, refl, ap, arith}
+use Rattle.std.proofs.Common.{◌≡◌, ℕ, zero, suc, ◌+◌, ◌==◌, ◌<◌, ◌≤◌, ◌^◌, true, false, List, [], ◌∷◌, length, count_by, IfSome, Option, Some, None, is_some, option_map, slice_get, unwrap_or, refl, ap, arith}
 use Rattle.std.specs.List.{list_all}
 use Rattle.std.proofs.lemmas.Bool.Decides.{nat_tests}
 use Rattle.std.proofs.lemmas.Bool.{eqb-true}
@@ -35,7 +35,7 @@ use Rattle.wdf_model.specs.parts.Queues.{front, waiting_in}
 use Rattle.wdf_model.specs.parts.Control.{no_control, notify_due}
 use Rattle.wdf_model.specs.parts.Pnp.{next_step, no_sequence}
 use Rattle.wdf_model.specs.parts.Deferred.Timers.{is_reached, timed_of, timer_due}
-use Rattle.wdf_model.specs.State.{State, declared_in, held_at, is_with_driver}
+use Rattle.wdf_model.specs.State.{State, declared_in, is_with_driver}
 use Rattle.wdf_model.specs.Ids.{frame_id, irql_of, object_id}
 use Rattle.wdf_model.specs.declared.deed.Deed.TheVariants.{Present, PushFrame}
 use Rattle.wdf_model.specs.rules.Deeds.{do_deeds}
@@ -46,26 +46,16 @@ use Rattle.wdf_model.proofs.Counts.{equal, front_leaves}
 use Rattle.law_machine_room.specs.Kept.{table_size}
 use Rattle.wdf_model.specs.rules.Room.{AreDoable, IsRequest, IsThere, MayHold}
 use Rattle.law_machine_room.proofs.Doable.{Fine, clock_small, cpu_of_plan, doable_after, held_few, inside, locks_few, next_frame_few, next_frame_fresh, request_here, stack_there}
-use Rattle.law_machine_room.proofs.DoableFrames.{flagged, same_there}
+use Rattle.law_machine_room.proofs.DoableFrames.{same_there}
 use Rattle.law_machine_counts.proofs.StepTable.{top_is}
+use Rattle.law_machine_counts.proofs.Undone.{held_undone, queued_undone, returning_undone}
+use Rattle.law_machine_counts.proofs.Totals.{flagged}
 
 -- ---- places and ids
 
 pub sent_undone : (t : ℕ) (p : Place) → is_sent_to t p ≡ true → is_done p ≡ false
 sent_undone t place.Done h = absurd (let z : ⊥ = cc in z)
 sent_undone t _ h = refl
-
-pub held_undone : (forgotten : Bool) (p : Place) → held_at forgotten p ≡ true → is_done p ≡ false
-held_undone forgotten place.Done h = absurd (let z : ⊥ = cc in z)
-held_undone forgotten _ h = refl
-
-pub queued_undone : (q : ℕ) (p : Place) → is_queued_in q p ≡ true → is_done p ≡ false
-queued_undone q place.Done h = absurd (let z : ⊥ = cc in z)
-queued_undone q _ h = refl
-
-returning_undone : (q : ℕ) (p : Place) → is_returning_to q p ≡ true → is_done p ≡ false
-returning_undone q place.Done h = absurd (let z : ⊥ = cc in z)
-returning_undone q _ h = refl
 
 step_there : (found : Option Step) (s : Step) → same_option same_step found (Some s) ≡ true → is_some found ≡ true
 step_there None s h = h

@@ -10,8 +10,6 @@ use Rattle.wdf_base.specs.declared.object.Mark.TheVariants as mark
 use Rattle.wdf_base.specs.declared.object.Place.{Place}
 use Rattle.wdf_base.specs.declared.object.Place.TheVariants as place
 use Rattle.wdf_base.specs.declared.object.RequestInfo.{RequestInfo}
-use Rattle.wdf_base.specs.declared.call.Callback.{Callback}
-use Rattle.wdf_base.specs.declared.call.Callback.TheVariants as callback
 use Rattle.wdf_base.specs.Same.{same_lock}
 use Rattle.wdf_base.specs.Lives.{is_asked, is_cleaned, is_live}
 use Rattle.wdf_base.specs.Places.{is_returning_to}
@@ -45,6 +43,7 @@ use Rattle.wdf_model.specs.rules.Room.{AreDoable, IsDoable}
 use Rattle.law_machine_room.proofs.GrowthMaps.{element_counts, filtered, one_more, put_keeps, put_sums, within}
 use Rattle.law_machine_room.proofs.GrowthCounts.{Gain, Grows, arrivals_change, clock_changes, counts_of, gains, grows_at_most, grows_less, grows_on, grows_then, held_changes, is_gain, levels_change, locks_change, no_more, nothing, objects_change, objects_grow, requests_change, same_counts, Holding_more, Object_more, Reference_more}
 use Rattle.wdf_model.proofs.FrameCounts.{flag_small}
+use Rattle.law_machine_counts.proofs.Trees.{noted_references}
 
 -- ---- objects
 
@@ -61,11 +60,6 @@ object_changes S o f more there few =
     let before : references_in S.tree ≡ references_at S.tree.nodes = sum-map (λ (n : Node). n.references) S.tree.nodes in
     let later : references_in (with_node S.tree o f) ≡ references_at new = sum-map (λ (n : Node). n.references) new in
     objects_change more (counts_of S) (length new) (references_in (with_node S.tree o f)) (put_keeps gone S.tree.nodes o (f (node_of S.tree o)) there) (omega arith)
-
-noted_references : (c : Callback) (n : Node) → (noted c n).references ≡ n.references
-noted_references callback.EvtCleanupCallback n = refl
-noted_references callback.EvtDestroyCallback n = refl
-noted_references _ n = refl
 
 -- an object more has no references
 made_references : (T : Tree) (n : Node) → n.references ≡ 0 → references_in (record T { nodes = T.nodes ++ n ∷ [] }) ≡ references_in T

@@ -1,11 +1,10 @@
 -- The interrupts that steps name are declared ones, after each act on the sequences of devices.
-use Rattle.std.proofs.Common.{if◌then◌else◌, ◌≡◌, ℕ, zero, suc, ◌<◌, ◌≤◌, Bool, true, false, List, [], ◌∷◌, ◌++◌, inl, inr, Option, Some, None, length, drop, reverse, slice_get, refl, ap, sym, subst, ◌∙◌, arith}
+use Rattle.std.proofs.Common.{if◌then◌else◌, ◌≡◌, ℕ, ◌<◌, Bool, true, false, List, [], ◌∷◌, ◌++◌, inl, inr, Option, Some, None, length, drop, reverse, refl, ap, sym, subst, ◌∙◌, arith}
 use Rattle.std.specs.List.{All, flat_map, list_any}
 use Rattle.std.proofs.lemmas.Bool.{cases_lt}
 use Rattle.std.proofs.lemmas.List.{reverse-append}
 use Rattle.std.proofs.lemmas.List.Elements.{All-append, All-cons, All-drop, All-head, All-map, All-nil, All-tail}
 use Rattle.std.proofs.lemmas.List.FromFn.{get_or-map-range_with_len, length-map-range_with_len}
-use Rattle.std.proofs.lemmas.Option.{slice_get_within}
 use Rattle.wdf_base.specs.declared.plan.Plan.{Plan}
 use Rattle.wdf_base.specs.declared.ids.Handle.{Handle}
 use Rattle.wdf_base.specs.declared.value.Value.{Value}
@@ -18,18 +17,18 @@ use Rattle.wdf_base.specs.declared.event.Stage.TheVariants as stage
 use Rattle.wdf_base.specs.declared.event.Step.{Step}
 use Rattle.wdf_base.specs.declared.event.Step.TheVariants as step
 use Rattle.wdf_base.specs.declared.declared.DeviceInfo.{DeviceInfo}
-use Rattle.wdf_base.specs.declared.declared.Declared.{Declared}
 use Rattle.wdf_base.specs.Same.{same_callback}
 use Rattle.wdf_model.specs.declared.enums.Phase.{Phase}
 use Rattle.wdf_model.specs.declared.enums.Phase.TheVariants.{Off, Working, Sleeping, Removed}
 use Rattle.wdf_model.specs.Tables.{first_of_list}
-use Rattle.wdf_model.specs.Plans.{as_device, device_of, interrupts_of}
+use Rattle.wdf_model.specs.Plans.{device_of, interrupts_of}
 use Rattle.wdf_model.specs.parts.Pnp.{DeviceSteps, InterruptSteps, Pnp, Sequence, disable_steps, down_steps, enable_steps, end_steps, flush_steps, hard_steps, interrupt_steps, is_success, left_after, left_after_failure, no_sequence, opening_pnp, opening_sequence, pass, passed, quiet_steps, run, run_if, self_managed_start, sequence_of, steps_for, steps_off, steps_sleeping, steps_working, tail_steps, taken_step, up_steps, with_sequence, with_step}
 use Rattle.wdf_model.specs.parts.Pnp as pnp
 use Rattle.wdf_model.proofs.Counts.{one_or_two}
 use Rattle.wdf_model.proofs.Maps.{entry_past, entry_put_other, entry_put_same}
 use Rattle.law_machine_room.specs.Kept.{IsStepThere, table_size}
 use Rattle.law_machine_room.proofs.SizesOfPlans.{interrupts_below}
+use Rattle.law_machine_counts.proofs.StepsOverRuns.{no_device}
 
 -- ---- lists
 
@@ -271,20 +270,12 @@ opening_left plan d (Some i) = refl
 opened : (plan : Plan) (d : ℕ) → SequenceNamed plan d (opening_sequence plan d (device_of plan d))
 opened plan d = record { left = subst (StepsThere plan) (sym (opening_left plan d (device_of plan d))) (none_there plan); made_of = refl }
 
-past_by : (plan : Plan) (k : ℕ) (found : Option Declared) → slice_get plan.declared k ≡ found → length plan.declared ≤ k → as_device found ≡ None
-past_by plan k None e h = refl
-past_by plan k (Some x) e h = let within = slice_get_within plan.declared k x e in absurd (omega arith)
-
-no_device_past : (plan : Plan) (d : ℕ) → table_size plan ≤ d → device_of plan d ≡ None
-no_device_past plan zero h = absurd (omega arith)
-no_device_past plan (suc k) h = past_by plan k (slice_get plan.declared k) refl (omega arith)
-
 pub opening_read : (plan : Plan) (d : ℕ) → sequence_of (opening_pnp plan) d ≡ opening_sequence plan d (device_of plan d)
 opening_read plan d = elim (cases_lt d (table_size plan)) [
   | inl within ↦ get_or-map-range_with_len (λ x. opening_sequence plan x (device_of plan x)) 0 (table_size plan) d d no_sequence within (omega arith)
   | inr past ↦
       let long : length (opening_pnp plan).devices ≡ table_size plan = length-map-range_with_len (λ x. opening_sequence plan x (device_of plan x)) 0 (table_size plan) in
-      entry_past no_sequence (opening_pnp plan).devices d (omega arith) ∙ sym (ap (opening_sequence plan d) (no_device_past plan d past))
+      entry_past no_sequence (opening_pnp plan).devices d (omega arith) ∙ sym (ap (opening_sequence plan d) (no_device plan d past))
 ]
 
 pub opening_steps_named : (plan : Plan) → StepsNamed plan (opening_pnp plan)

@@ -1,5 +1,5 @@
 -- How long the tables are after each deed that can be done: as long as before.
-use Rattle.std.proofs.Common.{if◌then◌else◌, ◌≡◌, ℕ, ◌+◌, ◌<◌, Bool, true, false, List, [], length, drop, Option, Some, None, unwrap_or, map, refl, sym, ap, ◌∙◌, arith, ◌⊎◌, inl, inr, ◌-◌, ◌≤◌}
+use Rattle.std.proofs.Common.{if◌then◌else◌, ◌≡◌, ℕ, ◌+◌, ◌<◌, Bool, true, false, List, [], length, drop, Option, Some, None, unwrap_or, map, sym, ap, ◌∙◌, arith, ◌⊎◌, inl, inr, ◌-◌, ◌≤◌}
 use Rattle.std.proofs.lemmas.List.{length-map}
 use Rattle.std.proofs.lemmas.Bool.{cases_eq, cases_lt}
 use Rattle.wdf_base.specs.declared.plan.Plan.{Plan}
@@ -21,6 +21,7 @@ use Rattle.wdf_model.specs.Plans.{is_managed}
 use Rattle.wdf_model.specs.rules.Deeds.{hold_power, release_line, release_power}
 use Rattle.wdf_model.proofs.Maps.{as_long, entry_map, entry_past, entry_put_other, entry_put_same, put_within}
 use Rattle.law_machine_room.specs.Kept.{TargetsKept, table_size}
+use Rattle.law_machine_counts.proofs.PowerQueues.{held_devices, released_devices}
 
 -- a write within a map keeps its length
 pub as_many : {T : Type 0} (blank : T) (xs : List T) (id : ℕ) (new : T) (n : ℕ) → id < n → length xs ≡ n → length (put blank xs id new) ≡ n
@@ -68,19 +69,11 @@ shut_sized n M d k = length-map M.controls (shut_control d) ∙ k
 
 -- ---- power
 
-hold_stays_by : (P : Power) (r q : ℕ) (b : Bool) → (if b then power.held_more P r q else P).devices ≡ P.devices
-hold_stays_by P r q true = refl
-hold_stays_by P r q false = refl
-
 pub hold_stays : (plan : Plan) (P : Power) (r q : ℕ) → (hold_power plan P r q).devices ≡ P.devices
-hold_stays plan P r q = hold_stays_by P r q (is_managed plan q)
-
-release_stays_by : (P : Power) (r : ℕ) (b : Bool) → (if b then power.held_less P r else P).devices ≡ P.devices
-release_stays_by P r true = refl
-release_stays_by P r false = refl
+hold_stays plan P r q = held_devices P r q (is_managed plan q)
 
 pub release_stays : (P : Power) (r : ℕ) → (release_power P r).devices ≡ P.devices
-release_stays P r = release_stays_by P r (is_held (holding_of P r))
+release_stays P r = released_devices P r (is_held (holding_of P r))
 
 stage_sized : (n : ℕ) (P : Power) (d : ℕ) (s : Stage) → d < n → length P.devices ≡ n → length (power.advance_stage P d s).devices ≡ n
 stage_sized n P d stage.Hardware h k = as_many no_device_power P.devices d (record (device_power P d) { hardware = true }) n h k

@@ -1,5 +1,5 @@
 -- A frame begins on an object that isn't past its cleanup, but for that of a destroy callback.
-use Rattle.std.proofs.Common.{◌≡◌, ℕ, Bool, true, false, ◌&&◌, List, [], ◌∷◌, ◌++◌, Option, Some, None, refl, ap, ◌∙◌}
+use Rattle.std.proofs.Common.{◌≡◌, ℕ, Bool, true, false, ◌&&◌, List, ◌∷◌, Option, Some, None, refl, ap, ◌∙◌}
 use Rattle.std.specs.Prelude.{⊤}
 use Rattle.std.specs.List.{list_all}
 use Rattle.wdf_base.specs.Meaning.{Meaning}
@@ -19,7 +19,7 @@ use Rattle.wdf_model.specs.State.{State, declared_in, is_proper}
 use Rattle.wdf_model.specs.Ids.{cpu_of, frame_id, irql_of}
 use Rattle.wdf_model.specs.declared.deed.Deed.{Deed}
 use Rattle.wdf_model.specs.declared.deed.Deed.TheVariants.{PushFrame}
-use Rattle.wdf_model.specs.rules.Deeds.{do_deed, do_deeds}
+use Rattle.wdf_model.specs.rules.Deeds.{do_deeds}
 use Rattle.wdf_model.specs.rules.Starts.{life_fits, may_start, new_frame, next_number, start_deeds, start_effect, take_if_any}
 use Rattle.wdf_model.specs.rules.Steps.{deeds, is_cpu, is_proper_if_any, may}
 use Rattle.wdf_model.proofs.Tests.{both_left, both_right}
@@ -28,6 +28,7 @@ use Rattle.law_machine_deeds.proofs.Walk.{plain_start}
 use Rattle.law_machine_deeds.proofs.Passing.{PassesBeside, event_passes, start_effect_passes, start_of}
 use Rattle.law_machine_lives.proofs.SoundEvents.{start_effect_sound}
 use Rattle.law_machine_lives.proofs.Lives.{asked_early, live_early}
+use Rattle.law_machine_lives.proofs.AllOf.{AllOf, all_behind, all_such}
 
 -- a frame begins before its object's cleanup, but for that of a destroy callback
 abbrev pub Early : {A : Type 0} → Deed → State A → Type 0
@@ -36,12 +37,7 @@ Early _ S = ⊤
 
 -- each of some deeds does so where it is done
 abbrev pub AllEarly : {A : Type 0} → Plan → List Deed → State A → Type 0
-AllEarly plan [] S = ⊤
-AllEarly plan (d ∷ ds) S = Early d S × AllEarly plan ds (do_deed plan d S)
-
-early_after : {A : Type 0} (plan : Plan) (ds es : List Deed) (S : State A) → AllEarly plan ds S → AllEarly plan es (do_deeds plan ds S) → AllEarly plan (ds ++ es) S
-early_after plan [] es S h k = k
-early_after plan (d ∷ ds) es S h k = (h.0, early_after plan ds es (do_deed plan d S) h.1 k)
+AllEarly {A} plan ds S = AllOf plan (λ (d : Deed) (U : State A). Early d U) ds S
 
 -- ---- deeds by which no frame begins
 
@@ -61,8 +57,7 @@ early_one (PushFrame cpu f frame level) S h = absurd (let z : ⊥ = cc in z)
 early_one _ S h = tt
 
 none_early : {A : Type 0} (plan : Plan) (ds : List Deed) (S : State A) → none_begin ds ≡ true → AllEarly plan ds S
-none_early plan [] S h = tt
-none_early plan (d ∷ ds) S h = (early_one d S (both_left (begins_none d) (none_begin ds) h), none_early plan ds (do_deed plan d S) (both_right (begins_none d) (none_begin ds) h))
+none_early {A} plan ds S h = all_such plan (λ (d : Deed) (U : State A). Early d U) begins_none early_one ds S h
 
 -- ---- starts
 
@@ -87,7 +82,7 @@ start_early {A} plan m S cpu c o r h =
     let U : State A = do_deeds plan ds S in
     let alive : life_fits S c o.id.0 ≡ true = search (both_left, both_right) in
     let same : is_past_cleanup (life_of U.tree o.id.0) ≡ is_past_cleanup (life_of S.tree o.id.0) = ap is_past_cleanup ((start_effect_sound plan S cpu c o.id.0 r).1.lives o.id.0) in
-    early_after plan ds (PushFrame (cpu_of cpu) (frame_id f) (new_frame plan S c o r) (irql_of (callback_irql plan c o.id.0)) ∷ take_if_any f l) S
+    all_behind plan (λ (d : Deed) (U : State A). Early d U) ds (PushFrame (cpu_of cpu) (frame_id f) (new_frame plan S c o r) (irql_of (callback_irql plan c o.id.0)) ∷ take_if_any f l) S
     (none_early plan ds S (start_effect_passes begins_none plan S cpu c o.id.0 r (effect_begins c)))
     ((λ n. same ∙ life_early S c o.id.0 alive n), none_early plan (take_if_any f l) _ (taking_begins f l))
 

@@ -11,7 +11,7 @@ use Rattle.wdf_base.specs.declared.event.Stage.TheVariants as stage
 use Rattle.wdf_base.specs.declared.event.Step.{Step}
 use Rattle.wdf_base.specs.declared.event.Step.TheVariants as step
 use Rattle.wdf_model.specs.Tables.{entry}
-use Rattle.wdf_model.specs.parts.Pnp.{Pnp, Sequence, busy, is_success, left_after, left_after_failure, no_sequence, run, running_step, sequence_of, steps_for, tail_steps, taken_step}
+use Rattle.wdf_model.specs.parts.Pnp.{Pnp, Sequence, is_success, left_after, left_after_failure, no_sequence, run, sequence_of, steps_for, tail_steps, taken_step}
 use Rattle.wdf_model.specs.parts.Pnp as pnp
 use Rattle.wdf_model.specs.State.{State}
 use Rattle.wdf_model.proofs.Maps.{entry_put_other, entry_put_same}
@@ -20,9 +20,11 @@ use Rattle.wdf_model.proofs.Counts.{one_or_two}
 use Rattle.law_trace_power.proofs.Happens.{taken_pass, taken_run}
 use Rattle.law_trace_settled.proofs.Moves as moves
 use Rattle.law_trace_settled.proofs.Moves.{Moved}
-use Rattle.law_machine_states.specs.Courses.{Asked, ComesFromList, Failed, IsEndOf, step_if_any, under_way}
+use Rattle.law_machine_states.specs.Courses.{Asked, ComesFromList, Failed, IsEndOf}
 use Rattle.law_machine_states.specs.Settled.{settles_next}
 use Rattle.law_machine_states.proofs.Lists.{agree, asked_whole, end_ordered, falls, in_order, is_end, tail_whole, turns_by}
+use Rattle.law_trace_power.specs.UnderWay.{step_if_any, under_way}
+use Rattle.law_trace_power.proofs.Sequences.{free_runs_none}
 
 -- ---- ends of lists
 
@@ -108,13 +110,6 @@ by_device Q R n d new is here k =
       | inr x ↦ subst (λ q. ComesFromList q) (sym (entry_put_other no_sequence Q.devices n d new x)) (k d)
     ])
 
-idle_at : (Q : Pnp) (n : ℕ) → busy Q n ≡ false → running_step Q n ≡ None
-idle_at Q n h = by_option (running_step Q n) refl
-  where
-    by_option : (r : Option Step) → running_step Q n ≡ r → r ≡ None
-    by_option None e = refl
-    by_option (Some s) e = absurd (let t : busy Q n ≡ true = rw e refl in let z : ⊥ = cc in z)
-
 module _ {A : Type 0} (plan : Plan) (S U : State A) (e : Event) (k : Courses S.pnp) where
   pub courses_after : Moved plan S U e → Courses U.pnp
   courses_after (moves.Unmoved quiet_ same devices) d = subst (λ Q. ComesFromList (sequence_of Q d)) (sym same) (k d)
@@ -129,4 +124,4 @@ module _ {A : Type 0} (plan : Plan) (S U : State A) (e : Event) (k : Courses S.p
       by_device S.pnp U.pnp n.id.0 d (taken_step q) same (subst (λ r. ComesFromList r) (sym (taken_pass q s j (drop 1 q.left) next_)) (passes q s j (drop 1 q.left) idle next_ (k n.id.0))) k
   courses_after (moves.Asked n a quiet_ free same devices) d =
       let q : Sequence = sequence_of S.pnp n in
-      by_device S.pnp U.pnp n d (record q { left = steps_for q.steps q.ever_working q.phase a }) same (asks_for q a (idle_at S.pnp n free)) k
+      by_device S.pnp U.pnp n d (record q { left = steps_for q.steps q.ever_working q.phase a }) same (asks_for q a (free_runs_none S.pnp n free)) k

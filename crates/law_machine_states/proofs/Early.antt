@@ -37,12 +37,14 @@ use Rattle.law_machine_lives.proofs.SoundRuns.{all_sound, known_place}
 use Rattle.law_machine_lives.proofs.Framing.{off_it, object_of}
 use Rattle.law_machine_lives.proofs.FramesStay.{Begins, FramesGoOn, frames_by}
 use Rattle.law_machine_states.specs.States.{FramesBeforeCleanup}
-use Rattle.law_machine_lives.proofs.Readers.{arrived_tree, tree_of}
+use Rattle.law_machine_lives.proofs.Readers.{tree_of}
 use Rattle.law_machine_lives.proofs.Lives.{live_early, noted_kept}
 use Rattle.law_machine_lives.proofs.PartsStay.{tree_stays}
 use Rattle.law_machine_states.proofs.Beginnings.{AllEarly, Early, event_early}
 use Rattle.law_machine_counts.proofs.StepsOverRuns.{none_yet}
 use Rattle.wdf_model.proofs.FrameCounts.{on}
+use Rattle.law_machine_counts.proofs.Arrived.{arrived_tree}
+use Rattle.law_machine_lives.proofs.AllOf.{all_both, all_keep}
 
 -- ---- an object that isn't past its cleanup isn't after a deed, until its cleanup or its end
 
@@ -135,10 +137,9 @@ runs_by plan d S fit s early k = runs_still S (do_deed plan d S) (frames_by plan
 -- ---- each place of a run
 
 deeds_run : {A : Type 0} (plan : Plan) (ds : List Deed) (S : State A) → all_fit plan ds S ≡ true → AllSound plan ds S → AllEarly plan ds S → AllMayRun S → AllMayRun (do_deeds plan ds S)
-deeds_run plan [] S h s early k = k
-deeds_run plan (d ∷ ds) S h s early k =
-    deeds_run plan ds (do_deed plan d S) (both_right (fits plan d S) (all_fit plan ds (do_deed plan d S)) h) s.1 early.1
-    (runs_by plan d S (both_left (fits plan d S) (all_fit plan ds (do_deed plan d S)) h) s.0 early.0 k)
+deeds_run {A} plan ds S h s early k =
+    all_keep plan (λ (d : Deed) (U : State A). Sound plan d U × Early d U) (λ (U : State A). AllMayRun U) (λ d U fit p q. runs_by plan d U fit p.0 p.1 q)
+    ds S h (all_both plan (λ (d : Deed) (U : State A). Sound plan d U) (λ (d : Deed) (U : State A). Early d U) ds S s early) k
 
 opens : {A : Type 0} (plan : Plan) (m : Meaning A) → AllMayRun (opening plan m)
 opens plan m f more = absurd (let e = none_yet plan (λ x. x == f) in omega arith)

@@ -35,9 +35,10 @@ use Rattle.law_machine_lives.proofs.Stays.{gives_up}
 use Rattle.law_machine_lives.proofs.Lists.{all_of_kept, inside, reads_same}
 use Rattle.law_machine_lives.proofs.LivesOver.{Lives, lives_at_each}
 use Rattle.law_machine_states.specs.States.{ParentsThere}
-use Rattle.law_machine_lives.proofs.Readers.{arrived_tree, tree_of}
+use Rattle.law_machine_lives.proofs.Readers.{tree_of}
 use Rattle.law_machine_lives.proofs.Lives.{noted_kept}
 use Rattle.law_machine_lives.proofs.PartsStay.{tree_stays}
+use Rattle.law_machine_counts.proofs.Arrived.{arrived_tree}
 
 -- what isn't gone has no parent, or one that isn't gone
 abbrev pub Kin : Tree → Type 0

@@ -44,7 +44,8 @@ use Rattle.law_trace_requests.proofs.Marks.{is_armed}
 use Rattle.law_trace_requests.proofs.Cancels.{AllGo}
 use Rattle.law_trace_requests.proofs.CancelsOverRuns.{all_go_at_each}
 use Rattle.law_machine_states.specs.States.{MarksAgree}
-use Rattle.law_machine_lives.proofs.Readers.{arrived_requests, requests_of}
+use Rattle.law_machine_lives.proofs.Readers.{requests_of}
+use Rattle.law_machine_counts.proofs.Arrived.{arrived_requests}
 
 -- a request that is marked isn't cancelled
 abbrev pub Plain : Request → Type 0

@@ -27,17 +27,18 @@ use Rattle.wdf_laws.specs.Laws.{is_managed_of}
 use Rattle.wdf_laws.specs.Signs.{shows}
 use Rattle.law_trace_held.proofs.Holdings.{noted}
 use Rattle.law_trace_held.proofs.Settled.{held_there, none_unsettled}
-use Rattle.law_trace_settled.proofs.Course.{TakesUp, passed_left, up_by, up_here, up_in, up_there}
+use Rattle.law_trace_settled.proofs.Course.{TakesUp, up_by, up_here, up_in, up_there}
 use Rattle.law_trace_settled.proofs.Moves as moves
 use Rattle.law_trace_settled.proofs.Moves.{Moved}
 use Rattle.law_trace_settled.proofs.Never.{not_so, not_such}
 use Rattle.law_trace_settled.proofs.Queues.{of_device}
 use Rattle.law_trace_power.proofs.Happens.{taken_pass}
-use Rattle.law_machine_states.specs.Courses.{step_if_any, under_way}
 use Rattle.law_machine_states.specs.Settled.{settles_next}
 use Rattle.law_machine_states.proofs.Lists.{agree, falls, in_order, is_end, turns}
 use Rattle.law_machine_states.proofs.Courses.{Courses, ordered}
 use Rattle.law_machine_states.proofs.Open.{Before, OpenStep, Opened, Taken, Woken, is_open}
+use Rattle.law_trace_power.specs.UnderWay.{step_if_any, under_way}
+use Rattle.law_trace_power.proofs.Sequences.{passed_left}
 
 -- nothing is held of the device and not acknowledged
 abbrev pub AllSettled : Power → ℕ → Type 0

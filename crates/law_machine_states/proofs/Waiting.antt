@@ -1,5 +1,5 @@
 -- What a call names in which a frame waits isn't past its cleanup, at each place of every run.
-use Rattle.std.proofs.Common.{◌≡◌, ℕ, ◌==◌, ◌≤◌, Bool, true, false, ◌&&◌, ◌||◌, List, [], ◌∷◌, ◌++◌, Option, Some, None, inl, inr, count_by, take, refl, sym, ap, subst, ◌∙◌, append-nil, arith}
+use Rattle.std.proofs.Common.{◌≡◌, ℕ, ◌==◌, ◌≤◌, Bool, true, false, ◌&&◌, ◌||◌, List, [], ◌∷◌, ◌++◌, Option, Some, None, inl, inr, count_by, take, refl, sym, ap, subst, ◌∙◌, arith}
 use Rattle.std.specs.Prelude.{⊤}
 use Rattle.std.specs.List.{list_all, list_any}
 use Rattle.std.proofs.lemmas.Bool.{cases_Bool, eqb-true, or_cases}
@@ -19,8 +19,6 @@ use Rattle.wdf_base.specs.declared.event.Event.TheVariants as event
 use Rattle.wdf_base.specs.declared.event.Fault.TheVariants as fault
 use Rattle.wdf_base.specs.declared.frame.Frame.{Frame}
 use Rattle.wdf_base.specs.declared.frame.Pending.{Pending}
-use Rattle.wdf_base.specs.declared.object.Life.{Life}
-use Rattle.wdf_base.specs.declared.object.Life.TheVariants as life
 use Rattle.wdf_base.specs.declared.object.LockRef.{LockRef}
 use Rattle.wdf_base.specs.declared.signature.Sort.{Sort}
 use Rattle.wdf_base.specs.Calls.{signature_of}
@@ -68,6 +66,8 @@ use Rattle.law_machine_states.specs.Naming.{has_object, names, names_there}
 use Rattle.law_machine_states.specs.States.{WaitsBeforeCleanup}
 use Rattle.law_machine_states.proofs.Early.{early_still}
 use Rattle.law_machine_states.proofs.Naming.{nameable, object_stays, objects_there}
+use Rattle.law_machine_lives.proofs.QuietMoves.{cleaned_past}
+use Rattle.law_machine_lives.proofs.AllOf.{AllOf, all_behind, all_both, all_keep, all_such}
 
 -- the row of a call asks for one object, as the first argument, and that isn't to be cleaned
 pub record HasOne (k : CallKind) : Type 0 where
@@ -94,10 +94,6 @@ found_in q f (x ∷ xs) passes more = elim (cases_Bool (x == f)) [
   | inr off ↦ second (q x) (list_any q xs) (found_in q f xs passes (let e = count_no (λ y. y == f) x xs off in omega arith))
 ]
 
-cleaned_late : (l : Life) → is_cleaned l ≡ true → is_past_cleanup l ≡ true
-cleaned_late life.Cleaned h = refl
-cleaned_late _ h = absurd (let z : ⊥ = cc in z)
-
 -- it isn't cleaned up, since a frame waits for it, and doesn't end, since it isn't cleaned
 stays_early : {A : Type 0} (plan : Plan) (d : Deed) (S : State A) → fits plan d S ≡ true → (f : ℕ) (p : Pending) → 1 ≤ on S.cpus f → (frame_of S.cpus f).pending ≡ Some p
     → is_past_cleanup (life_of S.tree (object_in p.call.a)) ≡ false → is_past_cleanup (life_of (do_deed plan d S).tree (object_in p.call.a)) ≡ false
@@ -108,7 +104,7 @@ stays_early plan (CleanUp x) S fit f p more waits early = early_still plan (Clea
     let z : ⊥ = cc in z) early
 stays_early plan (EndLife x) S fit f p more waits early = early_still plan (EndLife x) S (object_in p.call.a) (λ same.
     let clean : is_cleaned (life_of S.tree x.0) ≡ true = search (both_left, both_right) in
-    let late : is_past_cleanup (life_of S.tree (object_in p.call.a)) ≡ true = ap (λ y. is_past_cleanup (life_of S.tree y)) same ∙ cleaned_late (life_of S.tree x.0) clean in
+    let late : is_past_cleanup (life_of S.tree (object_in p.call.a)) ≡ true = ap (λ y. is_past_cleanup (life_of S.tree y)) same ∙ cleaned_past (life_of S.tree x.0) clean in
     let z : ⊥ = cc in z) early
 stays_early plan d S fit f p more waits early = early_still plan d S (object_in p.call.a) (λ e. e) early
 
@@ -134,8 +130,7 @@ Puts (GoOn f frame) S = (p : Pending) → frame.pending ≡ Some p → Awaited S
 Puts _ S = ⊤
 
 abbrev AllPut : {A : Type 0} → Plan → List Deed → State A → Type 0
-AllPut plan [] S = ⊤
-AllPut plan (d ∷ ds) S = Puts d S × AllPut plan ds (do_deed plan d S)
+AllPut {A} plan ds S = AllOf plan (λ (d : Deed) (U : State A). Puts d U) ds S
 
 abbrev puts_none : Deed → Bool
 puts_none (PushFrame cpu f frame level) = false
@@ -184,10 +179,9 @@ awaited_by plan d S fit s put k x p more waits =
     record { one = it.one; object = still_object plan d S p.call fit it early; early = early }
 
 deeds_await : {A : Type 0} (plan : Plan) (ds : List Deed) (S : State A) → all_fit plan ds S ≡ true → AllSound plan ds S → AllPut plan ds S → AllAwaited S → AllAwaited (do_deeds plan ds S)
-deeds_await plan [] S h s put k = k
-deeds_await plan (d ∷ ds) S h s put k =
-    deeds_await plan ds (do_deed plan d S) (both_right (fits plan d S) (all_fit plan ds (do_deed plan d S)) h) s.1 put.1
-    (awaited_by plan d S (both_left (fits plan d S) (all_fit plan ds (do_deed plan d S)) h) s.0 put.0 k)
+deeds_await {A} plan ds S h s put k =
+    all_keep plan (λ (d : Deed) (U : State A). Sound plan d U × Puts d U) (λ (U : State A). AllAwaited U) (λ d U fit p q. awaited_by plan d U fit p.0 p.1 q)
+    ds S h (all_both plan (λ (d : Deed) (U : State A). Sound plan d U) (λ (d : Deed) (U : State A). Puts d U) ds S s put) k
 
 -- ---- lists of deeds that put no frame there, and clean up and end nothing
 
@@ -204,13 +198,12 @@ plain_put (PushFrame cpu f frame level) S h = absurd (let z : ⊥ = cc in z)
 plain_put (GoOn f frame) S h = absurd (let z : ⊥ = cc in z)
 plain_put _ S h = tt
 
+all_put : {A : Type 0} (plan : Plan) (ds : List Deed) (S : State A) → all_plain ds ≡ true → AllPut plan ds S
+all_put {A} plan ds S h = all_such plan (λ (d : Deed) (U : State A). Puts d U) is_plain plain_put ds S h
+
 -- such deeds, and others after them
 put_then : {A : Type 0} (plan : Plan) (ds es : List Deed) (S : State A) → all_plain ds ≡ true → AllPut plan es (do_deeds plan ds S) → AllPut plan (ds ++ es) S
-put_then plan [] es S h k = k
-put_then plan (d ∷ ds) es S h k = (plain_put d S (both_left (is_plain d) (all_plain ds) h), put_then plan ds es (do_deed plan d S) (both_right (is_plain d) (all_plain ds) h) k)
-
-all_put : {A : Type 0} (plan : Plan) (ds : List Deed) (S : State A) → all_plain ds ≡ true → AllPut plan ds S
-all_put plan ds S h = subst (λ es. AllPut plan es S) (append-nil ds) (put_then plan ds [] S h tt)
+put_then {A} plan ds es S h k = all_behind plan (λ (d : Deed) (U : State A). Puts d U) ds es S (all_put plan ds S h) k
 
 plain_await : {A : Type 0} (plan : Plan) (ds : List Deed) (S : State A) (c : Call) → all_plain ds ≡ true → all_fit plan ds S ≡ true → Awaited S.tree c → Awaited (do_deeds plan ds S).tree c
 plain_await plan [] S c h fit it = it

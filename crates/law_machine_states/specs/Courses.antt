@@ -1,22 +1,14 @@
 -- From which lists the steps of a device come.
-use Rattle.std.specs.Prelude.{◌≡◌, ℕ, List, [], ◌∷◌, ◌++◌, Option, Some, None}
+use Rattle.std.specs.Prelude.{◌≡◌, ℕ, List, ◌++◌}
 use Rattle.wdf_base.specs.declared.event.Ask.{Ask}
 use Rattle.wdf_base.specs.declared.event.Step.{Step}
 use Rattle.wdf_model.specs.parts.Pnp.{Sequence, sequence_of, steps_for, tail_steps}
 use Rattle.wdf_model.specs.State.{State}
+use Rattle.law_trace_power.specs.UnderWay.{under_way}
 
 -- a list of steps ends in these
 abbrev pub IsEndOf : List Step → List Step → Type 0
 IsEndOf steps whole = (front : List Step) × (front ++ steps ≡ whole)
-
--- a step, if there is one
-abbrev pub step_if_any : Option Step → List Step
-step_if_any None = []
-step_if_any (Some s) = s ∷ []
-
--- the step whose callback runs, if there is one, and the steps left
-abbrev pub under_way : Sequence → List Step
-under_way q = step_if_any q.running ++ q.left
 
 -- What is under way is the end of a list that the machine gives.
 pub data ComesFromList (q : Sequence) : Type 0 where

@@ -13,15 +13,12 @@ use Rattle.wdf_model.proofs.Maps.{entry_map, entry_put_other, entry_put_same}
 use Rattle.wdf_model.proofs.Counts.{equal, not_equal, one_or_two}
 use Rattle.law_queue_modes.specs.Modes.{closes, last_mode, mode_by, mode_told}
 use Rattle.law_queue_modes.proofs.Stays.{SameModes, control_elsewhere, control_here, equal_modes, its_device, its_mode, read_same}
+use Rattle.std.proofs.Math.Bool.{or-false, or-true}
 
 -- ---- one event more
 
-none_or : (b : Bool) → (b || false) ≡ b
-none_or true = refl
-none_or false = refl
-
 closed_more : (d : ℕ) (es : List Event) (e : Event) → list_any (closes d) (es ++ e ∷ []) ≡ (list_any (closes d) es || closes d e)
-closed_more d es e = list_any-append (closes d) es (e ∷ []) ∙ ap (λ b. list_any (closes d) es || b) (none_or (closes d e))
+closed_more d es e = list_any-append (closes d) es (e ∷ []) ∙ ap (λ b. list_any (closes d) es || b) (or-false (closes d e))
 
 last_more : (q : ℕ) (es : List Event) (e : Event) → last_mode q (es ++ e ∷ []) ≡ mode_by q (last_mode q es) e
 unfolding last_mode
@@ -32,10 +29,6 @@ told_more : (d q : ℕ) (es : List Event) (e : Event) (b : Bool) (m : Mode) → 
 told_more d q es e b m c k = rw (closed_more d es e, last_more q es e, c, k) refl
 
 -- ---- a device that is closed
-
-or_all : (b : Bool) → (b || true) ≡ true
-or_all true = refl
-or_all false = refl
 
 pub shut_by : (p : ℕ) (c : QueueControl) (b : Bool) → (c.device.0 == p) ≡ b → shut_control p c ≡ (if b then record c { mode = Purged } else c)
 shut_by p c b h = rw h refl
@@ -71,10 +64,10 @@ module _ (C : Control) (d q : ℕ) (es : List Event) (e : Event) (k : Told C d q
   -- an event that closes no device
   module _ (open_ : closes d e ≡ false) where
     still_closed : list_any (closes d) next ≡ list_any (closes d) es
-    still_closed = closed_more d es e ∙ ap (λ b. list_any (closes d) es || b) open_ ∙ none_or (list_any (closes d) es)
+    still_closed = closed_more d es e ∙ ap (λ b. list_any (closes d) es || b) open_ ∙ or-false (list_any (closes d) es)
 
     told_open : (m : Mode) → mode_by q last e ≡ m → mode_told d q next ≡ by_closing m (list_any (closes d) es)
-    told_open m says = told_more d q es e false m open_ says ∙ ap (by_closing m) (none_or (list_any (closes d) es))
+    told_open m says = told_more d q es e false m open_ says ∙ ap (by_closing m) (or-false (list_any (closes d) es))
 
     -- and says nothing of the mode
     pub told_same : (D : Control) → SameModes C D → mode_by q last e ≡ last → Told D d q next
@@ -128,8 +121,8 @@ module _ (C : Control) (d q : ℕ) (es : List Event) (e : Event) (k : Told C d q
         let its : ((control_of C q).device.0 == p) ≡ true = equal (control_of C q).device.0 p (k.device ∙ same) in
         record {
           device = ap its_device (shut_at C p q) ∙ shut_device p (control_of C q) true its ∙ k.device;
-          closed = ap (entry false (put false C.closed p true)) same ∙ entry_put_same false C.closed p true ∙ sym (closed_more d es e ∙ ap (λ b. list_any (closes d) es || b) is ∙ or_all (list_any (closes d) es));
-          mode = ap its_mode (shut_at C p q ∙ shut_by p (control_of C q) true its) ∙ sym (told_more d q es e true last is calm ∙ ap (by_closing last) (or_all (list_any (closes d) es)));
+          closed = ap (entry false (put false C.closed p true)) same ∙ entry_put_same false C.closed p true ∙ sym (closed_more d es e ∙ ap (λ b. list_any (closes d) es || b) is ∙ or-true (list_any (closes d) es));
+          mode = ap its_mode (shut_at C p q ∙ shut_by p (control_of C q) true its) ∙ sym (told_more d q es e true last is calm ∙ ap (by_closing last) (or-true (list_any (closes d) es)));
         }
     told_shut_by (inr n) says =
         let off : closes d e ≡ false = says ∙ not_equal p d (λ x. n (sym x)) in

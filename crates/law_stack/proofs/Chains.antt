@@ -10,12 +10,13 @@ use Rattle.wdf_base.specs.declared.event.Event.{Event}
 use Rattle.wdf_model.specs.declared.enums.Phase.{Phase}
 use Rattle.wdf_model.specs.declared.stack.StackDevice.{StackDevice}
 use Rattle.wdf_model.specs.Tables.{same_id}
-use Rattle.wdf_model.proofs.Tests.{itself}
 use Rattle.wdf_model.specs.Plans.{device_of, devices_of}
 use Rattle.wdf_model.specs.parts.Pnp.{opening_phase}
 use Rattle.wdf_model.specs.agents.Chains.{above, below, device_named_by, if_above}
 use Rattle.wdf_model.specs.agents.StackManager.{is_device, is_working, known, phase_of_stage, stack_device, with_phase_one}
 use Rattle.law_stack.specs.Words.{works, works_after, works_at_opening, works_step}
+use Rattle.law_machine_counts.proofs.StepTable.{top_is}
+use Rattle.law_stuck_named_if.proofs.Presents.{same_there}
 
 -- a device of the plan
 abbrev pub is_declared : Plan → ℕ → Bool
@@ -23,15 +24,8 @@ is_declared plan d = list_any (λ y. y == d) (devices_of plan)
 
 -- ---- above and below
 
-same_id_is : (o : Option ℕ) (d : ℕ) → same_id o d ≡ true → o ≡ Some d
-same_id_is None d h = absurd (let z : ⊥ = cc in z)
-same_id_is (Some x) d h = ap Some (eqb-true x d h)
-
-is_same_id : (o : Option ℕ) (d : ℕ) → o ≡ Some d → same_id o d ≡ true
-is_same_id o d h = rw h (itself d)
-
 below_by : (plan : Plan) (d e x : ℕ) (b : Bool) → same_id (above plan x) d ≡ b → if_above plan d (Some x) ≡ Some e → (x ≡ e) × (above plan x ≡ Some d)
-below_by plan d e x true s h = let n : Some x ≡ Some e = rw s at h in (cc, same_id_is (above plan x) d s)
+below_by plan d e x true s h = let n : Some x ≡ Some e = rw s at h in (cc, top_is (above plan x) d s)
 below_by plan d e x false s h = absurd (let n : None ≡ Some e = rw s at h in let z : ⊥ = cc in z)
 
 below_named : (plan : Plan) (d e : ℕ) (o : Option ℕ) → device_named_by plan d ≡ o → if_above plan d o ≡ Some e → above plan e ≡ Some d
@@ -55,8 +49,8 @@ find_passes p (x ∷ xs) y h = find_passes_by p x xs y (p x) refl (find_passes p
 -- the device above one has it below
 pub above_has_below : (plan : Plan) (d e : ℕ) → above plan e ≡ Some d → below plan d ≡ Some e
 above_has_below plan d e h =
-    let names = same_id_is (device_named_by plan d) e (find_passes (λ x. same_id (device_named_by plan x) e) (devices_of plan) d h) in
-    let first = is_same_id (above plan e) d h in
+    let names = top_is (device_named_by plan d) e (find_passes (λ x. same_id (device_named_by plan x) e) (devices_of plan) d h) in
+    let first = same_there (above plan e) d h in
     ap (if_above plan d) names ∙ (rw first refl)
 
 -- ---- what is known of a device

@@ -57,6 +57,8 @@ use Rattle.law_stack.specs.Words as Words
 use Rattle.law_stack.specs.Words.{Passing, cancelled_if, has_no_arrival, passing_step, sent_now, with_arrival, with_cancel, with_send, without_done}
 use Rattle.law_stack.proofs.Counting.{times_of}
 use Rattle.law_stack.proofs.Undone.{all_calm, back_others, done_others, is_calm, sent_more, undone, waits_at}
+use Rattle.law_machine_counts.proofs.Totals.{flagged}
+use Rattle.wdf_model.proofs.FrameCounts.{flag_small, flag_small as small}
 
 -- how often a request is among the Sends
 abbrev pub sends_of : ℕ → List Passing → ℕ
@@ -64,7 +66,7 @@ sends_of r ps = times_of (λ (p : Passing). p.request) r ps
 
 -- ---- how an event changes the Sends
 
-cancel_keeps_one : (named : ℕ → Bool) (p : Passing) (b : Bool) → named p.request ≡ b → (cancelled_if named p).request ≡ p.request
+pub cancel_keeps_one : (named : ℕ → Bool) (p : Passing) (b : Bool) → named p.request ≡ b → (cancelled_if named p).request ≡ p.request
 cancel_keeps_one named p true e = rw e refl
 cancel_keeps_one named p false e = rw e refl
 
@@ -85,16 +87,12 @@ arrival_keeps : (answer : Option ℕ) (r : ℕ) (ps : List Passing) → sends_of
 arrival_keeps answer r [] = refl
 arrival_keeps answer r (p ∷ ps) = arrival_keeps_by answer r p ps (has_no_arrival p) refl (arrival_keeps answer r ps)
 
-at_most_one : (b : Bool) → flag b ≤ 1
-at_most_one true = omega arith
-at_most_one false = omega arith
-
 send_adds : (o : Option ℕ) (r : ℕ) (ps : List Passing) → sends_of r (with_send o ps) ≤ sends_of r ps + flag (is_some o)
 send_adds None r ps = omega arith
 send_adds (Some x) r ps =
     let a = count_behind (λ (q : Passing). q.request == r) ps (sent_now x ∷ []) in
     let b = count_cons (λ (q : Passing). q.request == r) (sent_now x) [] in
-    let f : flag (x == r) ≤ 1 = at_most_one (x == r) in
+    let f : flag (x == r) ≤ 1 = flag_small (x == r) in
     omega (arith, a, b, f)
 
 send_others : (x r : ℕ) (ps : List Passing) → r ≢ x → sends_of r (with_send (Some x) ps) ≡ sends_of r ps
@@ -123,10 +121,6 @@ done_fewer x r ps = filter_less (λ (q : Passing). q.request == r) (λ q. not (q
 -- each Send is at the target, which isn't done with it
 abbrev pub IsThere : Targets → ℕ → List Passing → Type 0
 IsThere T t ps = (r : ℕ) → sends_of r ps ≤ undone T t r
-
-small : (b : Bool) → flag b ≤ 1
-small true = omega arith
-small false = omega arith
 
 waits_fewer_by : (r : ℕ) (s : Sending) (xs : List Sending) (b : Bool) → (s.request.0 == r) ≡ b → count_by (waits_at r) xs ≤ count_by (λ s. s.request.0 == r) xs → count_by (waits_at r) (s ∷ xs) ≤ count_by (λ s. s.request.0 == r) (s ∷ xs)
 waits_fewer_by r s xs true e rest =
@@ -167,10 +161,6 @@ found_waits : (r : ℕ) (xs : List Sending) → count_by (λ s. s.request.0 == r
 found_waits r [] once waits = absurd (omega (arith, waits))
 found_waits r (s ∷ xs) once waits = found_waits_by r s xs (s.request.0 == r) refl once waits (found_waits r xs)
 
-is_yes : (b : Bool) → 1 ≤ flag b → b ≡ true
-is_yes true h = refl
-is_yes false h = absurd (omega (arith, h))
-
 pub at_one_target : (p : Place) (t u : ℕ) → is_sent_to t p ≡ true → u ≢ t → is_sent_to u p ≡ false
 at_one_target (place.Sent x) t u h n = not_equal x.0 u (λ e. n (sym e ∙ eqb-true x.0 t h))
 at_one_target (place.Queued q) t u h n = refl
@@ -185,7 +175,7 @@ module _ {A : Type 0} (S : State A) (t : ℕ) (places : PlacesAgree S) where
   sent_there r h =
       let less = waits_fewer r (the_target S.targets t).sent in
       let count = places.sent t r in
-      is_yes (is_sent_to t (place_of S.requests r)) (omega (arith, less, count, h))
+      flagged (is_sent_to t (place_of S.requests r)) (omega (arith, less, count, h))
 
   -- and no completion routine is due for it
   no_routine : (r : ℕ) → 1 ≤ undone S.targets t r → routine_due S.targets r ≡ None
@@ -211,7 +201,7 @@ named (Val (Num n)) r e = absurd (let z : ⊥ = cc in z)
 named (Val (Stat s)) r e = absurd (let z : ⊥ = cc in z)
 named (Class c) r e = absurd (let z : ⊥ = cc in z)
 
-calm_of : (e : Event) → posts is_done e ≡ false → starts rank.Completion e ≡ false → (d : Deed) → may_do e d ≡ true → is_calm d ≡ true
+pub calm_of : (e : Event) → posts is_done e ≡ false → starts rank.Completion e ≡ false → (d : Deed) → may_do e d ≡ true → is_calm d ≡ true
 calm_of e no_done no_start (FinishSending r s) h = absurd (let z : ⊥ = cc in z)
 calm_of e no_done no_start (ComeBack r) h = absurd (let z : ⊥ = cc in z)
 calm_of e no_done no_start d h = refl

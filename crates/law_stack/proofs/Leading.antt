@@ -34,7 +34,8 @@ use Rattle.law_stack.specs.Words.{works, works_after, works_step}
 use Rattle.law_stack.proofs.Chains.{works_next}
 use Rattle.law_stack.proofs.Orders.{follower_of, next_in_order, order_stays}
 use Rattle.law_stack.proofs.Sequences.{down_asked, down_end, down_tail, is_last, last_only, not_up, nothing_after, nothing_asked}
-use Rattle.law_stack.proofs.Turning.{all_free, busy_elsewhere, busy_left, busy_running, free_runs_none, left_begun, left_passed, phase_of, runs_passed, sequence_here}
+use Rattle.law_stack.proofs.Turning.{all_free, busy_elsewhere, busy_left, busy_running, left_begun, left_passed, phase_of, runs_passed, sequence_here}
+use Rattle.law_trace_power.proofs.Sequences.{free_runs_none, refused_query}
 
 -- ---- what holds of the manager
 
@@ -184,12 +185,6 @@ down_failure q _ h = h
 down_after : (q : Sequence) (c : Callback) (b : Bool) → list_all not_up q.left ≡ true → list_all not_up (if b then q.left else left_after_failure q c) ≡ true
 down_after q c true h = h
 down_after q c false h = down_failure q c h
-
--- a refused query leaves nothing
-refused_query : (q : Sequence) (c : Callback) → is_query c ≡ true → left_after_failure q c ≡ []
-refused_query q callback.EvtDeviceQueryStop h = refl
-refused_query q callback.EvtDeviceQueryRemove h = refl
-refused_query q _ h = absurd (let z : ⊥ = cc in z)
 
 refused_left : (q : Sequence) (c : Callback) (b : Bool) → is_query c ≡ true → not b ≡ true → (if b then q.left else left_after_failure q c) ≡ []
 refused_left q c true h k = absurd (let z : ⊥ = cc in z)

@@ -1,6 +1,6 @@
 -- A request at any level below another is completed at most once, and once where its device was destroyed.
 use Rattle.std.proofs.Common.{◌≡◌, ℕ, zero, suc, ◌==◌, ◌<◌, ◌≤◌, Bool, true, not, ◌||◌, List, [], ◌∷◌, ◌++◌, take, drop, count_by, Some, None, slice_get, sym, ap, subst, ◌∙◌, arith}
-use Rattle.std.specs.List.{list_all, list_any}
+use Rattle.std.specs.List.{list_any}
 use Rattle.std.proofs.lemmas.Bool.{eqb-true}
 use Rattle.std.proofs.lemmas.List.{take-append-drop}
 use Rattle.wdf_base.specs.Meaning.{Meaning}
@@ -11,7 +11,7 @@ use Rattle.wdf_base.specs.declared.event.Post.TheVariants as post
 use Rattle.wdf_base.specs.declared.event.Event.{Event}
 use Rattle.wdf_base.specs.declared.event.Event.TheVariants as event
 use Rattle.wdf_model.specs.rules.Ready.{IsRunOf}
-use Rattle.wdf_model.proofs.Tests.{both_left, both_right, itself}
+use Rattle.wdf_model.proofs.Tests.{both_right, itself}
 use Rattle.wdf_model.proofs.Counts.{count_behind}
 use Rattle.law_machine_base.specs.OverRuns.{completes}
 use Rattle.law_machine_base.proofs.LawsOverRuns.{completed_once}
@@ -24,11 +24,7 @@ use Rattle.law_trace_once.proofs.Completions.{completion_completes}
 use Rattle.law_trace_once.proofs.Words.{any_weaker, ever_is, found_counts}
 use Rattle.law_trace_families.proofs.Drained.{law_1_at_each}
 use Rattle.law_stack.specs.Descents.{GoesDown, arrives_at}
-
-pub all_at : {T : Type 0} (p : T → Bool) (xs : List T) (k : ℕ) (y : T) → list_all p xs ≡ true → slice_get xs k ≡ Some y → p y ≡ true
-all_at p [] k y h at = absurd (let z : ⊥ = cc in z)
-all_at p (x ∷ xs) zero y h at = let same : x ≡ y = cc in ap p (sym same) ∙ both_left (p x) (list_all p xs) h
-all_at p (x ∷ xs) (suc k) y h at = all_at p xs k y (both_right (p x) (list_all p xs) h) at
+use Rattle.law_machine_lives.proofs.Lists.{all_at}
 
 at_front : {T : Type 0} (xs : List T) (n k : ℕ) (x : T) → k < n → slice_get xs k ≡ Some x → slice_get (take n xs) k ≡ Some x
 at_front xs zero k x l h = absurd (omega (arith, l))

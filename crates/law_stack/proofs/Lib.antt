@@ -11,14 +11,14 @@ mod Leading
 mod Levels
 mod Lines
 mod Members
-mod Openings
+pub mod Openings
 pub mod Ordered
 mod Orders
 pub mod Requests
 mod Rising
 mod Sequences
 pub mod Served
-mod Steps
+pub mod Steps
 pub mod Targets
 mod Turning
 pub mod Undone

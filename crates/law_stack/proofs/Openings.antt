@@ -52,7 +52,7 @@ depth_opens plan t = depth_opens_by plan t (cases_lt t (suc (length plan.declare
 
 -- ---- each agent
 
-no_passings : (t agent : ℕ) → passings t agent [] ≡ []
+pub no_passings : (t agent : ℕ) → passings t agent [] ≡ []
 unfolding passings
 no_passings t agent = refl
 

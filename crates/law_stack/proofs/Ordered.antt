@@ -1,6 +1,5 @@
 -- A stack comes up from the bottom and goes down from the top, at each place of a run.
-use Rattle.std.proofs.Common.{if◌then◌else◌, ◌≡◌, ℕ, zero, suc, ◌+◌, ◌==◌, nat_le, Bool, true, false, not, ◌&&◌, ◌||◌, List, [], ◌∷◌, ◌++◌, length, take, Option, Some, None, is_some, option_map, unwrap_or, slice_get, refl, sym, ap, subst, ◌∙◌, arith, rules}
-use Rattle.std.specs.Bool.{Decides}
+use Rattle.std.proofs.Common.{if◌then◌else◌, ◌≡◌, ℕ, zero, suc, ◌+◌, ◌==◌, nat_le, Bool, true, false, not, ◌&&◌, ◌||◌, List, [], ◌∷◌, ◌++◌, length, take, Option, Some, None, is_some, option_map, unwrap_or, slice_get, refl, sym, ap, subst, ◌∙◌, arith}
 use Rattle.std.proofs.lemmas.Bool.{eqb-true}
 use Rattle.std.proofs.lemmas.List.{length-map}
 use Rattle.wdf_base.specs.Meaning.{Meaning}
@@ -41,7 +40,6 @@ use Rattle.law_stack.proofs.Chains.{Knows, at_phase, knows_opens, knows_same, op
 use Rattle.law_stack.proofs.Heard.{agent_before, opens_as}
 use Rattle.law_stack.proofs.Knowing.{as_many, knows_next, phases_after, same_lines}
 use Rattle.law_stack.proofs.Leading.{Goes, Stands, stands_asked, stands_begun, stands_ended, stands_passed, stands_still}
-use Rattle.law_stack.proofs.Levels.{all_at}
 use Rattle.law_stack.proofs.Lines.{nothing_before}
 use Rattle.law_stack.proofs.Members.{handle_declared, is_device}
 use Rattle.law_stack.proofs.Orders.{first_in_order, follower_known}
@@ -50,6 +48,8 @@ use Rattle.law_stack.proofs.Rising.{rises}
 use Rattle.law_stack.proofs.Sequences.{last_only}
 use Rattle.law_stack.proofs.Turning.{IsInOrder, last_turns, phase_of, phase_turns}
 use Rattle.law_machine_room.proofs.NamesOfSteps.{opening_read}
+use Rattle.law_machine_counts.proofs.Sames.{ask_decides}
+use Rattle.law_machine_lives.proofs.Lists.{all_at}
 
 -- ---- what holds at each place
 
@@ -98,9 +98,6 @@ leads_opens plan = record {
 }
 
 -- ---- the post that comes
-
-ask_decides : (a b : Ask) → Decides (same_ask a b) (a ≡ b)
-ask_decides a b = search rules
 
 same_asked : (x : Post) (a : Ask) (n : Handle) → same_post x (post.Ask a n) ≡ true → x ≡ post.Ask a n
 same_asked (post.Ask b m) a n e =

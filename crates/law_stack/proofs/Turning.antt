@@ -18,11 +18,11 @@ use Rattle.wdf_model.proofs.Counts.{equal, not_equal, one_or_two}
 use Rattle.wdf_model.proofs.Maps.{entry_put_other, entry_put_same}
 use Rattle.law_trace_power.proofs.Happens.{taken_pass, taken_run}
 use Rattle.law_trace_turns.specs.Turned.{Asked, Begun, Ended, Passed, Still, Turned, is_turning}
-use Rattle.law_stuck_named.proofs.Lasting.{passed_left}
 use Rattle.law_stack.proofs.Chains.{phase_after}
 use Rattle.law_stack.proofs.Knowing.{phases_after}
 use Rattle.law_stack.proofs.Sequences.{last_asked, last_dropped, last_end, last_only, last_tail}
 use Rattle.law_machine_counts.proofs.StepMoves.{passed_running}
+use Rattle.law_trace_power.proofs.Sequences.{passed_left}
 
 -- ---- one device changes, and no other
 
@@ -67,13 +67,6 @@ busy_left Q d s ss h = busy_by (running_step Q d) (steps_left Q d) ss s h
 
 pub busy_running : (Q : Pnp) (d : ℕ) (s : Step) → running_step Q d ≡ Some s → busy Q d ≡ true
 busy_running Q d s h = rw h refl
-
-free_by : (r : Option Step) (xs : List Step) → (is_some r || not (length xs == 0)) ≡ false → r ≡ None
-free_by None xs h = refl
-free_by (Some x) xs h = absurd (let z : ⊥ = cc in z)
-
-pub free_runs_none : (Q : Pnp) (d : ℕ) → busy Q d ≡ false → running_step Q d ≡ None
-free_runs_none Q d h = free_by (running_step Q d) (steps_left Q d) h
 
 -- ---- phases
 

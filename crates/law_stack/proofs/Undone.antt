@@ -29,10 +29,6 @@ waits_at r s = s.request.0 == r && is_at_target s.outcome
 abbrev pub undone : Targets → ℕ → ℕ → ℕ
 undone T t r = count_by (waits_at r) (the_target T t).sent
 
-no_more : (b : Bool) → (b && false) ≡ false
-no_more true = refl
-no_more false = refl
-
 -- ---- one is sent
 
 new_waits : (r : ℕ) (forget : Bool) → flag (waits_at r (new_sending r forget)) ≡ 1

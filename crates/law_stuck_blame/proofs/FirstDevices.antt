@@ -32,12 +32,12 @@ use Rattle.wdf_model.specs.rules.Starts.{handle_id, is_unfinished_at, level_fits
 use Rattle.wdf_model.specs.rules.Waits.{by_frame, by_request, cause_if, cpus_with_dpc, first_cause, frames_where, head_lock, holders_of, next_step_line, no_cpu, object_of_step, queues_to_resume, quiet_frames, resume_cpus, resume_frames, resumes_cause, running_line, runs_step, scope_holders, stage_cpus, stage_frames, stage_requests, step_cause}
 use Rattle.wdf_model.proofs.Maps.{entry_past}
 use Rattle.law_stuck_causes.specs.Causes.{all_taken, awaits_cpu, awaits_frame, awaits_request, has_lock_if_any, is_taken, is_there, keeps_next, keeps_resumes, keeps_running, runs_callback, runs_on}
-use Rattle.law_stuck_causes.proofs.Members.{Has, has_back, has_flat, has_front, has_id}
+use Rattle.law_stuck_causes.proofs.Members.{Has, has_back, has_flat, has_front, has_id, has_kept}
 use Rattle.law_stuck_causes.proofs.Gives.{Gives, any_alike, gives_frame, it_contains}
 use Rattle.law_stuck_causes.proofs.Forms.{none_left, not_fits}
 use Rattle.law_stuck_blame.specs.Blame.{comes_before, is_blamed, place_of_next}
 use Rattle.law_stuck_blame.proofs.Rows.{IsFirstOf, IsThere, first_in, none_before, placed_if, placed_map, there_if}
-use Rattle.law_stuck_blame.proofs.There.{frame_on, has_passed, in_table, lock_by, lock_by_any, some_least, some_passes}
+use Rattle.law_stuck_blame.proofs.There.{frame_on, in_table, lock_by, lock_by_any, some_least, some_passes}
 
 module _ {A : Type 0} (plan : Plan) (S : State A) (d : ℕ) where
   -- ---- frames that keep the resumes, or the step
@@ -46,7 +46,7 @@ module _ {A : Type 0} (plan : Plan) (S : State A) (d : ℕ) where
   step_frame c f h =
       let outer = and_parts (is_there S f && same_callback (frame_of S.cpus f).callback c) ((frame_of S.cpus f).device.id.0 == d) h in
       let inner = and_parts (is_there S f) (same_callback (frame_of S.cpus f).callback c) outer.0 in
-      has_passed (λ g. runs_step d c (frame_of S.cpus g)) f (all_frames S.cpus) (has_id f (all_frames S.cpus) inner.0) (let both_so : runs_step d c (frame_of S.cpus f) ≡ true = rw (inner.1, outer.1) refl in both_so)
+      has_kept (λ g. runs_step d c (frame_of S.cpus g)) f (all_frames S.cpus) (has_id f (all_frames S.cpus) inner.0) (let both_so : runs_step d c (frame_of S.cpus f) ≡ true = rw (inner.1, outer.1) refl in both_so)
 
   resume_there : (f : ℕ) → keeps_resumes plan S d (cause.ByFrame (frame_id f)) ≡ true → Has f (resume_frames plan S d)
   resume_there f h =

@@ -22,13 +22,13 @@ use Rattle.wdf_model.specs.State.{State, handle_in, waits_for}
 use Rattle.wdf_model.specs.rules.Waits.{at_target, by_frame, cause_if, children_first, frames_where, holders_of, not_cleaned, object_cause, object_cpus, references_cause, target_of_place, users, users_that_keep, waits_for_younger}
 use Rattle.wdf_model.proofs.Tests.{both, both_left, both_right, first, second}
 use Rattle.law_stuck_causes.specs.Causes.{has_lock, is_there, runs_on, uses}
-use Rattle.law_stuck_causes.proofs.Members.{Has, has_back, has_front, has_id}
+use Rattle.law_stuck_causes.proofs.Members.{Has, has_back, has_front, has_id, has_kept as has_passed}
 use Rattle.law_stuck_causes.proofs.Gives.{Gives, gives_first, gives_frame, gives_if, gives_map, has_either, has_kept, least_has}
 use Rattle.law_stuck_causes.proofs.Forms.{none_left}
 use Rattle.law_stuck_objects.specs.Deleted.{finds_no_cpu}
 use Rattle.law_stuck_blame.specs.Blame.{goes_first, is_blamed, place_in_row}
 use Rattle.law_stuck_blame.proofs.Rows.{IsFirstOf, IsThere, first_in, placed_if, placed_map, there_if}
-use Rattle.law_stuck_blame.proofs.There.{child_there, frame_on, has_passed, lock_by, some_least}
+use Rattle.law_stuck_blame.proofs.There.{child_there, frame_on, lock_by, some_least}
 
 module _ {A : Type 0} (plan : Plan) (S : State A) (o : ℕ) where
   -- ---- children and siblings

@@ -20,8 +20,9 @@ use Rattle.wdf_model.specs.State.{State, held_at, held_from, is_held_from}
 use Rattle.wdf_model.specs.rules.Waits.{holders_of, requests_where}
 use Rattle.wdf_model.proofs.Maps.{entry_past}
 use Rattle.law_stuck_causes.specs.Causes.{has_lock, has_lock_if_any, is_there, runs_on}
-use Rattle.law_stuck_causes.proofs.Members.{Has, has_id, has_range}
+use Rattle.law_stuck_causes.proofs.Members.{Has, has_id, has_kept, has_range}
 use Rattle.law_stuck_blame.proofs.Rows.{there_least}
+use Rattle.std.proofs.Math.Bool.{and-false}
 
 -- ---- lists
 
@@ -32,17 +33,6 @@ not_empty x (y ∷ ys) h e = let z : ⊥ = cc in z
 -- of a list with something in it there is a least number
 pub some_least : (g : ℕ → Cause) (x : ℕ) (ns : List ℕ) → Has x ns → is_some (option_map g (least ns)) ≡ true
 some_least g x ns h = there_least g ns (not_empty x ns h)
-
-kept_by : {T : Type 0} (p : T → Bool) (x y : T) (ys : List T) (b : Bool) → p y ≡ b → Has x (y ∷ ys) → p x ≡ true → (Has x ys → Has x (filter p ys)) → Has x (filter p (y ∷ ys))
-kept_by p x y ys true e (inl s) h rest = rw e (inl s)
-kept_by p x y ys true e (inr t) h rest = rw e (inr (rest t))
-kept_by p x y ys false e (inl s) h rest = let z : ⊥ = cc (sym h ∙ ap p s ∙ e) in absurd z
-kept_by p x y ys false e (inr t) h rest = rw e (rest t)
-
--- what passes is kept
-pub has_passed : {T : Type 0} (p : T → Bool) (x : T) (xs : List T) → Has x xs → p x ≡ true → Has x (filter p xs)
-has_passed p x [] h k = absurd h
-has_passed p x (y ∷ ys) h k = kept_by p x y ys (p y) refl h k (λ t. has_passed p x ys t k)
 
 -- one of a list that passes
 pub record Passes {T : Type 0} (p : T → Bool) (xs : List T) : Type 0 where
@@ -63,13 +53,9 @@ some_passes p (x ∷ xs) h = passes_by p x xs (p x) refl h (some_passes p xs)
 -- an id that passes is one of the table's, where the blank entry doesn't pass
 pub in_table : {T : Type 0} (xs : List T) (p : ℕ → Bool) (r : ℕ) → (length xs ≤ r → p r ≡ false) → p r ≡ true → Has r (filter p (ids_of xs))
 in_table xs p r off h = elim (cases_Bool (nat_lt r (length xs))) [
-  | inl low ↦ let less : r < length xs = ltb-true r (length xs) low in has_passed p r (ids_of xs) (has_range r 0 (length xs) (omega arith) (omega (arith, less))) h
+  | inl low ↦ let less : r < length xs = ltb-true r (length xs) low in has_kept p r (ids_of xs) (has_range r 0 (length xs) (omega arith) (omega (arith, less))) h
   | inr late ↦ let z : ⊥ = cc (sym h ∙ off (ltb-false r (length xs) late)) in absurd z
 ]
-
-pub no_and : (b : Bool) → (b && false) ≡ false
-no_and true = refl
-no_and false = refl
 
 -- ---- frames
 
@@ -77,7 +63,7 @@ module _ {A : Type 0} (S : State A) where
   pub frame_on : (o f : ℕ) → runs_on S o f ≡ true → Has f (filter (is_on S.cpus o) (all_frames S.cpus))
   frame_on o f h =
       let parts = and_parts (is_there S f) (is_on S.cpus o f) h in
-      has_passed (is_on S.cpus o) f (all_frames S.cpus) (has_id f (all_frames S.cpus) parts.0) parts.1
+      has_kept (is_on S.cpus o) f (all_frames S.cpus) (has_id f (all_frames S.cpus) parts.0) parts.1
 
   -- ---- locks
 
@@ -97,7 +83,7 @@ module _ {A : Type 0} (S : State A) where
   pub held_there : (q r : ℕ) → is_held_from S q r ≡ true → Has r (held_from S q)
   held_there q r h =
       in_table S.requests.all (is_held_from S q) r
-      (λ late. ap (λ (x : Request). same_id (origin_of S.requests r) q && held_at (is_forgotten S.targets r) x.place) (entry_past no_request S.requests.all r late) ∙ no_and (same_id (origin_of S.requests r) q))
+      (λ late. ap (λ (x : Request). same_id (origin_of S.requests r) q && held_at (is_forgotten S.targets r) x.place) (entry_past no_request S.requests.all r late) ∙ and-false (same_id (origin_of S.requests r) q))
       h
 
   pub placed_there : (test : Place → Bool) (r : ℕ) → test place.Done ≡ false → test (place_of S.requests r) ≡ true → Has r (requests_where S test)
@@ -108,7 +94,7 @@ module _ {A : Type 0} (S : State A) where
 
   pub child_there : (p x : ℕ) → is_child S.tree p x ≡ true → Has x (children S.tree p)
   child_there p x h =
-      in_table S.tree.nodes (is_child S.tree p) x (λ late. ap (λ (n : Node). n.parent.0 == p && not (is_gone n.life)) (entry_past gone S.tree.nodes x late) ∙ no_and (gone.parent.0 == p)) h
+      in_table S.tree.nodes (is_child S.tree p) x (λ late. ap (λ (n : Node). n.parent.0 == p && not (is_gone n.life)) (entry_past gone S.tree.nodes x late) ∙ and-false (gone.parent.0 == p)) h
 
 -- ---- a lock that is held
 

@@ -1,5 +1,5 @@
 -- What is in a list: of a range, of what is kept, of what is gathered.
-use Rattle.std.proofs.Common.{◌≡◌, ◌⊎◌, inl, inr, ℕ, zero, suc, ◌+◌, ◌==◌, ◌<◌, ◌≤◌, Bool, true, false, nat_lt, List, [], ◌∷◌, ◌++◌, length, filter, map, slice_get, Option, Some, None, refl, sym, ap, ◌∙◌, arith}
+use Rattle.std.proofs.Common.{◌≡◌, ◌⊎◌, inl, inr, ℕ, zero, suc, ◌+◌, ◌==◌, ◌<◌, ◌≤◌, Bool, true, false, nat_lt, List, [], ◌∷◌, ◌++◌, length, filter, map, slice_get, Option, Some, None, refl, sym, ap, ◌∙◌, if◌then◌else◌, arith}
 use Rattle.std.specs.Prelude.{⊤, filter_map}
 use Rattle.std.proofs.lemmas.Bool.Decides.{nat_tests}
 use Rattle.std.specs.List.{flat_map, range_with_len, list_any}
@@ -38,6 +38,27 @@ pub has_mapped : {T U : Type 0} (f : T → Option U) (x : T) (y : U) (xs : List 
 has_mapped f x y [] h k = absurd h
 has_mapped f x y (z ∷ zs) (inl e) k = has_first f z y zs (f z) refl (ap f (sym e) ∙ k)
 has_mapped f x y (z ∷ zs) (inr h) k = has_later f z y zs (f z) refl (has_mapped f x y zs h k)
+
+pub among_of : {T : Type 0} (x : T) (xs : List T) → Has x xs → (k : ℕ) × (slice_get xs k ≡ Some x)
+among_of x [] h = absurd h
+among_of x (y ∷ ys) (inl e) = (0, ap Some (sym e))
+among_of x (y ∷ ys) (inr h) = let more = among_of x ys h in (suc more.0, more.1)
+
+kept_has : {T : Type 0} (p : T → Bool) (x y : T) (ys : List T) (b : Bool) → p y ≡ b → p x ≡ true → (x ≡ y) ⊎ Has x ys → (Has x ys → Has x (filter p ys)) → Has x (if b then y ∷ filter p ys else filter p ys)
+kept_has p x y ys true e h (inl s) rest = inl s
+kept_has p x y ys true e h (inr k) rest = inr (rest k)
+kept_has p x y ys false e h (inl s) rest = let same : p x ≡ p y = ap p s in absurd (let z : ⊥ = cc in z)
+kept_has p x y ys false e h (inr k) rest = rest k
+
+-- what passes is still there
+pub has_kept : {T : Type 0} (p : T → Bool) (x : T) (xs : List T) → Has x xs → p x ≡ true → Has x (filter p xs)
+has_kept p x [] k h = absurd k
+has_kept p x (y ∷ ys) k h = kept_has p x y ys (p y) refl h k (λ j. has_kept p x ys j h)
+
+pub has_image : {T U : Type 0} (f : T → U) (x : T) (xs : List T) → Has x xs → Has (f x) (map f xs)
+has_image f x [] h = absurd h
+has_image f x (y ∷ ys) (inl e) = inl (ap f e)
+has_image f x (y ∷ ys) (inr h) = inr (has_image f x ys h)
 
 -- each number of a range is in it
 pub has_range : (x a n : ℕ) → a ≤ x → x < a + n → Has x (range_with_len a n)

@@ -67,7 +67,7 @@ fold_some [] m h = h
 fold_some (n ∷ ns) (Some m) h = fold_some ns (lesser (Some m) n) (lesser_some m n (nat_le m n) refl)
 fold_some (n ∷ ns) None h = absurd (let z : ⊥ = cc in z)
 
-no_least : (ns : List ℕ) → least ns ≡ None → ns ≡ []
+pub no_least : (ns : List ℕ) → least ns ≡ None → ns ≡ []
 no_least [] h = refl
 no_least (n ∷ ns) h = absurd (let k = fold_some ns (Some n) refl in let g : is_some (least (n ∷ ns)) ≡ false = ap is_some h in let z : ⊥ = cc in z)
 

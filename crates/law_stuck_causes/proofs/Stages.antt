@@ -1,6 +1,6 @@
 -- A stage that a device waits for always has a cause, and so has each line of which that is said.
 use Rattle.law_stuck_causes.proofs.Works.{work_named}
-use Rattle.std.proofs.Common.{◌≡◌, inl, inr, ℕ, ◌==◌, ◌<◌, slice_get, Bool, true, false, not, ◌&&◌, ◌||◌, List, [], ◌∷◌, Option, Some, None, is_some, filter, length, refl, ap, ◌∙◌, arith, rules}
+use Rattle.std.proofs.Common.{◌≡◌, inl, inr, ℕ, ◌==◌, ◌<◌, slice_get, Bool, true, false, not, ◌&&◌, ◌||◌, List, [], ◌∷◌, Option, Some, None, is_some, filter, length, refl, ap, ◌∙◌, arith}
 use Rattle.std.specs.List.{flat_map, list_all, list_any}
 use Rattle.wdf_base.specs.declared.plan.Plan.{Plan}
 use Rattle.wdf_base.specs.declared.object.Place.{Place}
@@ -38,7 +38,6 @@ use Rattle.wdf_base.specs.declared.event.Stage.TheVariants as stage
 use Rattle.wdf_base.specs.declared.event.Step.{Step}
 use Rattle.wdf_base.specs.declared.event.Step.TheVariants as step
 use Rattle.wdf_base.specs.Places.{is_sent_to}
-use Rattle.std.specs.Bool.{Decides}
 use Rattle.wdf_model.specs.declared.entries.Request.{Request}
 use Rattle.wdf_model.specs.Plans.{managed_queues}
 use Rattle.wdf_model.specs.parts.Requests.{no_request, request_of}
@@ -55,6 +54,7 @@ use Rattle.law_stuck_causes.proofs.Endings.{at_rest}
 use Rattle.law_stuck_causes.proofs.EachLine.{OfLines, each_line}
 use Rattle.law_stuck_causes.proofs.Tops.{frame_named, held_now}
 use Rattle.law_stuck_causes.proofs.Needs.{front_none, framework_group, none_first, none_least, none_there, object_named, placed_at, some_or, unheld, free_hold}
+use Rattle.law_machine_counts.proofs.Sames.{stage_decides}
 
 -- ---- lists
 
@@ -74,9 +74,6 @@ each_one p [] h = refl
 each_one p (x ∷ xs) h = both (p x) (list_all p xs) (h x (inl refl)) (each_one p xs (λ y k. h y (inr k)))
 
 -- ---- stages
-
-stage_decides : (a b : Stage) → Decides (same_stage a b) (a ≡ b)
-stage_decides a b = search rules
 
 pub handle_itself : (i : Option Handle) → same_option same_handle i i ≡ true
 handle_itself None = refl

@@ -45,14 +45,14 @@ use Rattle.law_machine_counts.proofs.Holding.{HoldsIn, holder}
 use Rattle.law_machine_counts.proofs.HeldOverRuns.{from_by}
 use Rattle.law_machine_counts.proofs.StillFrames.{live_there}
 use Rattle.law_machine_lives.proofs.Lists.{inside}
-use Rattle.law_stuck_causes.proofs.Members.{Has, has_flat, has_range}
+use Rattle.law_stuck_causes.proofs.Members.{Has, has_flat, has_image, has_kept, has_range}
 use Rattle.law_stuck_causes.proofs.Endings.{AtRest, may_not}
 use Rattle.law_stuck_causes.proofs.Needs.{below_cpus, cpu_group, free_one, front_none, no_count, none_first, none_if, none_least, placed_at}
 use Rattle.law_stuck_named_if.specs.Starts.{step_may_run}
 use Rattle.law_stuck_named_if.proofs.Dpcs.{free_by_none}
 use Rattle.law_stuck_causes.proofs.Stages.{none_of, stage_comes}
 use Rattle.law_stuck_named_if.proofs.Steps.{callback_comes, none_gathered}
-use Rattle.law_stuck_named_if.proofs.Presents.{declared_within, has_image, kept_has, queue_there}
+use Rattle.law_stuck_named_if.proofs.Presents.{declared_within, queue_there}
 use Rattle.law_trace_queues.proofs.Resuming.{device_noted, noted}
 use Rattle.law_stuck_named.specs.Standing.{is_live_device, is_part, is_part_of}
 use Rattle.law_stuck_causes.proofs.Conjuncts.{five}
@@ -122,13 +122,13 @@ module _ {A : Type 0} (plan : Plan) (m : Meaning A) (S : State A) (rest : AtRest
       let runs : declares_in plan S callback.EvtIoResume q ≡ true = ap (λ y. is_some (script_on plan callback.EvtIoResume y)) told ∙ has in
       let inside_ : q < declared_end plan = declared_within plan q (ap is_some i.1) in
       let ids : Has q (declared_ids plan) = has_range q 0 (declared_end plan) (omega arith) (omega arith) in
-      let its : Has q (queues_of plan d) = kept_has (λ y. is_queue_of d (queue_of plan y)) q (declared_ids plan) ids (ap (λ o. is_queue_of d (as_queue o)) i.1 ∙ (ap (λ y. y == d) i.2 ∙ itself d)) in
-      let managed : Has q (managed_queues plan d) = kept_has (is_managed plan) q (queues_of plan d) its from.0 in
+      let its : Has q (queues_of plan d) = has_kept (λ y. is_queue_of d (queue_of plan y)) q (declared_ids plan) ids (ap (λ o. is_queue_of d (as_queue o)) i.1 ∙ (ap (λ y. y == d) i.2 ∙ itself d)) in
+      let managed : Has q (managed_queues plan d) = has_kept (is_managed plan) q (queues_of plan d) its from.0 in
       let low : r < length S.requests.all = inside no_request (λ (e : Request). not (is_done e.place)) S.requests.all r refl (held_undone (is_forgotten S.targets r) (place_of S.requests r) (both_right (same_id (origin_of S.requests r) q) (is_with_driver S r) held_)) in
       let all : Has r (ids_of S.requests.all) = has_range r 0 (length S.requests.all) (omega arith) (omega arith) in
-      let holding_ : Has r (held_from S q) = kept_has (is_held_from S q) r (ids_of S.requests.all) all held_ in
-      let resuming : Has r (resumes_at plan S q) = kept_has (resume_due S.power) r (held_from S q) holding_ due in
-      let there_q : Has q (queues_to_resume plan S d) = kept_has (λ y. nat_lt 0 (length (resumes_at plan S y))) q (managed_queues plan d) managed (not_empty r (resumes_at plan S q) resuming) in
+      let holding_ : Has r (held_from S q) = has_kept (is_held_from S q) r (ids_of S.requests.all) all held_ in
+      let resuming : Has r (resumes_at plan S q) = has_kept (resume_due S.power) r (held_from S q) holding_ due in
+      let there_q : Has q (queues_to_resume plan S d) = has_kept (λ y. nat_lt 0 (length (resumes_at plan S y))) q (managed_queues plan d) managed (not_empty r (resumes_at plan S q) resuming) in
       let lock : Option LockRef = scope_of plan callback.EvtIoResume q (declared_in plan S q) in
       let free : is_free_if_any S.locks lock ≡ true = free_by_none S lock (none_gathered (λ y. holders_of S (scope_of plan callback.EvtIoResume y (declared_in plan S y))) q (queues_to_resume plan S d) there_q unheld) in
       let left = free_one (λ cpu. level_fits S cpu (queue_level plan q)) 0 plan.cpus (none_of (λ y. no_cpu plan S (queue_level plan y)) (queues_to_resume plan S d) cpus q there_q) in

@@ -15,8 +15,9 @@ use Rattle.wdf_base.specs.declared.event.Step.TheVariants as step
 use Rattle.wdf_base.specs.Same.{same_callback}
 use Rattle.wdf_model.specs.declared.enums.Phase.{Phase}
 use Rattle.wdf_model.specs.declared.enums.Phase.TheVariants.{Off, Working, Sleeping, Removed}
-use Rattle.wdf_model.specs.parts.Pnp.{DeviceSteps, InterruptSteps, Sequence, disable_steps, down_steps, enable_steps, end_steps, flush_steps, hard_steps, is_success, left_after, left_after_failure, pass, passed, quiet_steps, run, run_if, self_managed_start, steps_for, tail_steps, taken_step, up_steps}
+use Rattle.wdf_model.specs.parts.Pnp.{DeviceSteps, InterruptSteps, Sequence, disable_steps, down_steps, enable_steps, end_steps, flush_steps, hard_steps, is_success, left_after, left_after_failure, pass, quiet_steps, run, run_if, self_managed_start, steps_for, tail_steps, taken_step, up_steps}
 use Rattle.wdf_model.proofs.Tests.{both, both_left, both_right}
+use Rattle.law_trace_power.proofs.Sequences.{passed_left}
 
 -- ---- the property
 
@@ -150,10 +151,6 @@ pub lasts_asked : (q : Sequence) (a : Ask) → Lasts (steps_for q.steps q.ever_w
 lasts_asked q a = asked q.steps q.ever_working q.phase a
 
 -- ---- a step is taken
-
-pub passed_left : (s : Stage) (q : Sequence) → (passed s q).left ≡ q.left
-passed_left stage.Removed q = refl
-passed_left _ q = refl
 
 lasts_passed : (s : Stage) (ss : List Step) → by_stage s ss (Lasts ss) → Lasts ss
 lasts_passed stage.Removed ss h = rw h tt

@@ -34,10 +34,11 @@ use Rattle.law_machine_room.specs.Kept.{table_size}
 use Rattle.law_machine_lives.proofs.Sound.{Sound}
 use Rattle.law_machine_lives.proofs.Stays.{asks_all, given, given_if}
 use Rattle.law_machine_base.proofs.KeptByDeeds.{owned_undone}
-use Rattle.law_machine_room.proofs.DoableStarts.{queued_undone}
-use Rattle.law_machine_lives.proofs.Readers.{requests_of, arrived_requests}
-use Rattle.law_machine_lives.proofs.Places.{returning_undone, sent_undone}
+use Rattle.law_machine_lives.proofs.Readers.{requests_of}
+use Rattle.law_machine_lives.proofs.Places.{sent_undone}
 use Rattle.law_machine_lives.proofs.FromQueues.{waits_there}
+use Rattle.law_machine_counts.proofs.Arrived.{arrived_requests}
+use Rattle.law_machine_counts.proofs.Undone.{queued_undone, returning_undone}
 
 -- ---- the property
 

@@ -1,5 +1,5 @@
 -- The deeds of which nothing is asked, and which outcomes and events have no others.
-use Rattle.std.proofs.Common.{◌≡◌, ℕ, Bool, true, false, List, [], ◌∷◌, ◌++◌, refl}
+use Rattle.std.proofs.Common.{◌≡◌, ℕ, Bool, true, false, List, ◌++◌, refl}
 use Rattle.std.specs.List.{list_all}
 use Rattle.wdf_base.specs.declared.plan.Plan.{Plan}
 use Rattle.wdf_base.specs.declared.call.Call.{Call}
@@ -12,13 +12,13 @@ use Rattle.wdf_model.specs.State.{State}
 use Rattle.wdf_model.specs.declared.deed.Deed.{Deed}
 use Rattle.wdf_model.specs.declared.deed.Deed.TheVariants.{Arrive, AskDeletion, CompleteRequest, EndStep, EnqueueDpc}
 use Rattle.wdf_model.specs.rules.Calls.{outcome, second_deeds}
-use Rattle.wdf_model.specs.rules.Deeds.{do_deed, do_deeds}
+use Rattle.wdf_model.specs.rules.Deeds.{do_deeds}
 use Rattle.wdf_model.specs.rules.Steps.{deeds}
-use Rattle.wdf_model.proofs.Tests.{both_left, both_right}
 use Rattle.law_machine_deeds.specs.MayDo.{may_do, queues_dpcs}
 use Rattle.law_machine_deeds.proofs.Walk.{plain_frame}
 use Rattle.law_machine_deeds.proofs.Passing.{PassesBeside, calls_among, event_passes, first_of, outcome_passes, second_of, second_passes}
 use Rattle.law_stuck_named.proofs.Standing.{AllComes, Comes}
+use Rattle.law_machine_lives.proofs.AllOf.{all_behind, all_such}
 
 abbrev pub is_plain : Deed → Bool
 is_plain (AskDeletion o) = false
@@ -40,12 +40,10 @@ plain_one plan (Arrive device info p) S h = absurd (let z : ⊥ = cc in z)
 plain_one plan _ S h = tt
 
 pub plain_comes : {A : Type 0} (plan : Plan) (ds : List Deed) (S : State A) → all_plain ds ≡ true → AllComes plan ds S
-plain_comes plan [] S h = tt
-plain_comes plan (d ∷ ds) S h = (plain_one plan d S (both_left (is_plain d) (all_plain ds) h), plain_comes plan ds (do_deed plan d S) (both_right (is_plain d) (all_plain ds) h))
+plain_comes {A} plan ds S h = all_such plan (λ (d : Deed) (U : State A). Comes plan d U) is_plain (plain_one plan) ds S h
 
 pub comes_after : {A : Type 0} (plan : Plan) (ds es : List Deed) (S : State A) → AllComes plan ds S → AllComes plan es (do_deeds plan ds S) → AllComes plan (ds ++ es) S
-comes_after plan [] es S h k = k
-comes_after plan (d ∷ ds) es S h k = (h.0, comes_after plan ds es (do_deed plan d S) h.1 k)
+comes_after {A} plan ds es S h k = all_behind plan (λ (d : Deed) (U : State A). Comes plan d U) ds es S h k
 
 -- the calls of whose deeds something is asked
 abbrev pub is_asking_call : CallKind → Bool

@@ -39,11 +39,11 @@ use Rattle.wdf_model.specs.parts.Pnp.{Sequence, is_running_step, next_step, no_s
 use Rattle.wdf_model.specs.parts.Pnp as pnp
 use Rattle.wdf_model.specs.State.{State, declared_in, is_proper, opening}
 use Rattle.law_machine_base.specs.Agreement.{is_sequence}
-use Rattle.law_machine_base.specs.Fits.{all_fit, fits}
+use Rattle.law_machine_base.specs.Fits.{all_fit}
 use Rattle.wdf_model.specs.Ids.{cpu_of, frame_id, irql_of, object_id}
 use Rattle.wdf_model.specs.declared.deed.Deed.{Deed}
 use Rattle.wdf_model.specs.declared.deed.Deed.TheVariants.{AdvancePower, DisableInterrupt, EndStep, PopFrame, PushFrame, TakeStep}
-use Rattle.wdf_model.specs.rules.Deeds.{do_deed, do_deeds}
+use Rattle.wdf_model.specs.rules.Deeds.{do_deeds}
 use Rattle.wdf_model.specs.rules.Posts.{post_deeds}
 use Rattle.wdf_model.specs.rules.Ready.{IsRunOf, state_after}
 use Rattle.wdf_model.specs.rules.Starts.{effect, effect_for, end_of_step, handle_id, is_quiet, is_ready_for, may_pass, may_start, new_frame, next_number, rank_ready, release_if_any, stage_deeds, stage_ready, start_deeds, start_effect, step_of, step_ready, take_if_any}
@@ -65,12 +65,13 @@ use Rattle.law_trace_families.proofs.Families.{declared_within}
 use Rattle.law_stuck_named.specs.Standing.{IsOver, is_live_device, is_part, is_part_of}
 use Rattle.law_machine_lives.proofs.Deferring.{none_queued}
 use Rattle.law_stuck_named.proofs.Soon.{IsSteady, Steady, comes_soon}
-use Rattle.law_stuck_named.proofs.Standing.{AllComes, Stands}
+use Rattle.law_stuck_named.proofs.Standing.{AllComes, Comes, Stands}
 use Rattle.law_stuck_named.proofs.Coming.{Facts, event_comes}
 use Rattle.law_machine_once.proofs.Steps.{IsDeclaredStep, steps_declared}
 use Rattle.law_stuck_named.proofs.Runs.{Known, known_now, stands_now}
 use Rattle.law_stuck_named.proofs.Quieting.{AllServes, Quieting, Serves, quieting_by}
 use Rattle.wdf_model.proofs.FrameCounts.{on}
+use Rattle.law_machine_lives.proofs.AllOf.{all_behind, all_both, all_keep, all_such}
 
 -- ---- deeds of which nothing is asked
 
@@ -81,12 +82,7 @@ calm_one plan (DisableInterrupt i) S h = absurd (let z : ⊥ = cc in z)
 calm_one plan _ S h = tt
 
 none_serves : {A : Type 0} (plan : Plan) (ds : List Deed) (S : State A) → none_moves ds ≡ true → AllServes plan ds S
-none_serves plan [] S h = tt
-none_serves plan (d ∷ ds) S h = (calm_one plan d S (both_left (not (is_moving d)) (none_moves ds) h), none_serves plan ds (do_deed plan d S) (both_right (not (is_moving d)) (none_moves ds) h))
-
-serves_after : {A : Type 0} (plan : Plan) (ds es : List Deed) (S : State A) → AllServes plan ds S → AllServes plan es (do_deeds plan ds S) → AllServes plan (ds ++ es) S
-serves_after plan [] es S h k = k
-serves_after plan (d ∷ ds) es S h k = (h.0, serves_after plan ds es (do_deed plan d S) h.1 k)
+none_serves {A} plan ds S h = all_such plan (λ (d : Deed) (U : State A). Serves plan d U) (λ d. not (is_moving d)) (calm_one plan) ds S h
 
 -- ---- events
 
@@ -139,7 +135,7 @@ module _ {A : Type 0} (plan : Plan) (m : Meaning A) (S : State A) (facts : Facts
   starts cpu c o r may_come =
       let ready : is_ready_for plan m S cpu c o.id.0 r ≡ true = search (both_left, both_right) in
       let l : Option LockRef = lock_of_callback plan c o.id.0 (declared_in plan S o.id.0) in
-      serves_after plan (start_effect plan S cpu c o.id.0 r) (PushFrame (cpu_of cpu) (frame_id (next_number S)) (new_frame plan S c o r) (irql_of (callback_irql plan c o.id.0)) ∷ take_if_any (next_number S) l) S
+      all_behind plan (λ (d : Deed) (U : State A). Serves plan d U) (start_effect plan S cpu c o.id.0 r) (PushFrame (cpu_of cpu) (frame_id (next_number S)) (new_frame plan S c o r) (irql_of (callback_irql plan c o.id.0)) ∷ take_if_any (next_number S) l) S
       (begins_by cpu c o.id.0 r ready) (tt, taking_calm (next_number S) l _)
 
   -- ---- callbacks end
@@ -240,10 +236,9 @@ module _ {A : Type 0} (plan : Plan) (m : Meaning A) (S : State A) (facts : Facts
 -- ---- each place of a run
 
 deeds_quieten : {A : Type 0} (plan : Plan) (ds : List Deed) (S : State A) → all_fit plan ds S ≡ true → AllComes plan ds S → AllServes plan ds S → Quieting plan S → Quieting plan (do_deeds plan ds S)
-deeds_quieten plan [] S f c s k = k
-deeds_quieten plan (d ∷ ds) S f c s k =
-    deeds_quieten plan ds (do_deed plan d S) (both_right (fits plan d S) (all_fit plan ds (do_deed plan d S)) f) c.1 s.1
-    (quieting_by plan d S (both_left (fits plan d S) (all_fit plan ds (do_deed plan d S)) f) c.0 s.0 k)
+deeds_quieten {A} plan ds S f c s k =
+    all_keep plan (λ (d : Deed) (U : State A). Comes plan d U × Serves plan d U) (λ (U : State A). Quieting plan U) (λ d U fit p q. quieting_by plan d U fit p.0 p.1 q)
+    ds S f (all_both plan (λ (d : Deed) (U : State A). Comes plan d U) (λ (d : Deed) (U : State A). Serves plan d U) ds S c s) k
 
 in_range : (P : Sequence → Type 0) (f : ℕ → Sequence) → P no_sequence → ((x : ℕ) → P (f x)) → (a n d : ℕ) → P (entry no_sequence (map f (range_with_len a n)) d)
 in_range P f off on_ a zero d = off

@@ -41,9 +41,10 @@ use Rattle.law_machine_lives.proofs.Stays.{asks_all, gives_up, gives_up_if, queu
 use Rattle.law_machine_lives.proofs.Queued.{dpc_cancelled, dpc_enqueued, dpc_taken}
 use Rattle.law_trace_power.proofs.Happens.{not_running}
 use Rattle.law_machine_lives.proofs.Choices.{left_of}
-use Rattle.law_stuck_named.proofs.Lasting.{passed_left}
 use Rattle.law_stuck_named.proofs.Soon.{IsSteady, Unquiet, at_running, comes_soon, may_fail, soon_ended, steady_asked, steady_ended, steady_taken}
 use Rattle.law_stuck_named.proofs.Standing.{Comes}
+use Rattle.law_machine_lives.proofs.AllOf.{AllOf}
+use Rattle.law_trace_power.proofs.Sequences.{passed_left}
 
 -- ---- the property
 
@@ -59,8 +60,7 @@ Serves plan (DisableInterrupt i) S = (d : ℕ) → is_interrupt_of d (interrupt_
 Serves plan _ S = ⊤
 
 abbrev pub AllServes : {A : Type 0} → Plan → List Deed → State A → Type 0
-AllServes plan [] S = ⊤
-AllServes plan (d ∷ ds) S = Serves plan d S × AllServes plan ds (do_deed plan d S)
+AllServes {A} plan ds S = AllOf plan (λ (d : Deed) (U : State A). Serves plan d U) ds S
 
 -- ---- what a deed leaves alone
 

@@ -49,11 +49,13 @@ use Rattle.law_machine_lives.proofs.Stays.{gives_up, gives_up_if, queues_closed,
 use Rattle.law_trace_families.proofs.Families.{declared_within}
 use Rattle.law_stuck_named.specs.Standing.{IsOver, is_live_device, is_part, is_part_of}
 use Rattle.law_machine_lives.proofs.Subtrees.{live_unasked, unasked_stays}
-use Rattle.law_machine_lives.proofs.Readers.{arrived_tree, tree_of}
+use Rattle.law_machine_lives.proofs.Readers.{tree_of}
 use Rattle.law_machine_lives.proofs.Lives.{asked_off, cleaned_off, noted_kept}
 use Rattle.law_machine_lives.proofs.PartsStay.{tree_stays}
 use Rattle.law_stuck_named.proofs.Lasting.{Lasts, lasts_asked, lasts_ended, lasts_taken}
 use Rattle.law_stuck_named.proofs.Opened.{ArrivesWell, Opened, is_undone_request, opened_asked, opened_by, opened_completed}
+use Rattle.law_machine_counts.proofs.Arrived.{arrived_tree}
+use Rattle.law_machine_lives.proofs.AllOf.{AllOf}
 
 -- ---- the property
 
@@ -104,8 +106,7 @@ Comes plan _ S = ⊤
 
 -- each of some deeds is so where it is done
 abbrev pub AllComes : {A : Type 0} → Plan → List Deed → State A → Type 0
-AllComes plan [] S = ⊤
-AllComes plan (d ∷ ds) S = Comes plan d S × AllComes plan ds (do_deed plan d S)
+AllComes {A} plan ds S = AllOf plan (λ (d : Deed) (U : State A). Comes plan d U) ds S
 
 -- ---- lives
 

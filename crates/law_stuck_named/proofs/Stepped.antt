@@ -10,7 +10,6 @@ use Rattle.wdf_base.specs.declared.plan.Plan.{Plan}
 use Rattle.wdf_base.specs.declared.ids.Handle.{Handle}
 use Rattle.wdf_base.specs.declared.declared.Declared.{Declared}
 use Rattle.wdf_base.specs.declared.declared.Declared.TheVariants as declared
-use Rattle.wdf_base.specs.declared.declared.DeviceInfo.{DeviceInfo}
 use Rattle.wdf_base.specs.declared.declared.InterruptInfo.{InterruptInfo}
 use Rattle.wdf_base.specs.declared.object.Kind.{Kind}
 use Rattle.wdf_base.specs.declared.object.Kind.TheVariants as kind
@@ -44,15 +43,12 @@ use Rattle.law_stuck_named.proofs.Standing.{Stands}
 use Rattle.law_stuck_named.proofs.Coming.{Facts}
 use Rattle.law_machine_once.proofs.Steps.{IsDeclaredStep, steps_declared}
 use Rattle.law_stuck_named.proofs.Runs.{Known, known_now, stands_now}
+use Rattle.law_trace_families.proofs.Families.{device_info}
 
 -- ---- a step
 
 sequence_by : (k : Rank) → k ≡ rank.Sequence → is_sequence k ≡ true
 sequence_by k e = ap is_sequence e
-
-device_info : (o : Option Declared) → is_some (as_device o) ≡ true → (d : DeviceInfo) × (o ≡ Some (declared.Device d))
-device_info (Some (declared.Device d)) h = (d, refl)
-device_info _ h = absurd (let z : ⊥ = cc in z)
 
 no_interrupt : (o : Option Declared) → is_some (as_device o) ≡ true → is_some (as_interrupt o) ≡ false
 no_interrupt (Some (declared.Interrupt i)) h = absurd (let z : ⊥ = cc in z)

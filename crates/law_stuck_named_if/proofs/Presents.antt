@@ -1,5 +1,5 @@
 -- The line of a request in a queue, or that returns from one, always has a cause.
-use Rattle.std.proofs.Common.{if◌then◌else◌, ◌≡◌, inl, inr, ℕ, zero, suc, ◌+◌, ◌==◌, ◌<◌, Bool, true, false, not, nat_lt, List, [], ◌∷◌, Option, Some, None, is_some, length, filter, map, take_while, option_map, slice_get, refl, sym, ap, subst, ◌∙◌, arith}
+use Rattle.std.proofs.Common.{if◌then◌else◌, ◌≡◌, inl, inr, ℕ, zero, suc, ◌+◌, ◌==◌, ◌<◌, Bool, true, false, not, nat_lt, List, [], ◌∷◌, Option, Some, None, is_some, length, take_while, option_map, slice_get, refl, sym, ap, subst, ◌∙◌, arith}
 use Rattle.std.specs.Prelude.{option_and_then}
 use Rattle.std.proofs.lemmas.Bool.Decides.{nat_tests}
 use Rattle.wdf_base.specs.Meaning.{Meaning}
@@ -39,7 +39,7 @@ use Rattle.wdf_model.proofs.Tests.{all_four, both, both_left, both_right, itself
 use Rattle.wdf_model.proofs.Sames.{callback_decides, kind_decides}
 use Rattle.law_stuck_named_if.specs.Starts.{is_live_queue}
 use Rattle.law_machine_lives.proofs.Reasons.{takes}
-use Rattle.law_stuck_causes.proofs.Members.{Has, has_flat, has_range}
+use Rattle.law_stuck_causes.proofs.Members.{Has, has_flat, has_image, has_kept, has_range}
 use Rattle.law_stuck_causes.proofs.Endings.{AtRest, may_not}
 use Rattle.law_stuck_causes.proofs.Forms.{while_on}
 use Rattle.law_stuck_causes.proofs.Needs.{below_cpus, cpu_group, free_one, none_first, none_if, none_least, placed_at}
@@ -200,22 +200,6 @@ queued_waits plan m S rest q r waits queue taken h =
 is_none_end : (plan : Plan) (q : ℕ) → is_some (declared_of plan q) ≡ true → Has q (declared_ids plan)
 is_none_end plan q h = let inside : q < declared_end plan = declared_within plan q h in has_range q 0 (declared_end plan) (omega arith) (omega arith)
 
-kept_has_by : (p : ℕ → Bool) (x y : ℕ) (ys : List ℕ) (b : Bool) → p y ≡ b → Has x (y ∷ ys) → p x ≡ true → (Has x ys → Has x (filter p ys)) → Has x (if b then y ∷ filter p ys else filter p ys)
-kept_has_by p x y ys true e (inl s) k rest = inl s
-kept_has_by p x y ys true e (inr h) k rest = inr (rest h)
-kept_has_by p x y ys false e (inl s) k rest = absurd (let q : p y ≡ true = sym (ap p s) ∙ k in let z : ⊥ = cc in z)
-kept_has_by p x y ys false e (inr h) k rest = rest h
-
--- what passes and is in a list is kept
-pub kept_has : (p : ℕ → Bool) (x : ℕ) (ys : List ℕ) → Has x ys → p x ≡ true → Has x (filter p ys)
-kept_has p x [] h k = h
-kept_has p x (y ∷ ys) h k = kept_has_by p x y ys (p y) refl h k (λ t. kept_has p x ys t k)
-
-pub has_image : {T U : Type 0} (f : T → U) (x : T) (xs : List T) → Has x xs → Has (f x) (map f xs)
-has_image f x [] h = h
-has_image f x (y ∷ ys) (inl e) = inl (ap f e)
-has_image f x (y ∷ ys) (inr h) = inr (has_image f x ys h)
-
 place_there : (q : ℕ) (xs : List Request) (r : ℕ) → is_returning_to q (entry no_request xs r).place ≡ true → r < length xs
 place_there q [] r h = absurd (let z : ⊥ = cc in z)
 place_there q (x ∷ xs) zero h = omega arith
@@ -231,7 +215,7 @@ queue_there plan S q d is =
     let e : kind_of S.tree q ≡ kind.Queue = (kind_decides (kind_of S.tree q) kind.Queue).0 is in
     let at : option_and_then declared_kind (declared_of plan q) ≡ Some kind.Queue = d.declared q (ap is_declared_kind e) ∙ ap Some e in
     let queue : is_some (queue_of plan q) ≡ true = queue_by (declared_of plan q) at in
-    kept_has (λ id. is_some (queue_of plan id)) q (declared_ids plan) (is_none_end plan q (some_of (declared_of plan q) at)) queue
+    has_kept (λ id. is_some (queue_of plan id)) q (declared_ids plan) (is_none_end plan q (some_of (declared_of plan q) at)) queue
   where
     some_of : (o : Option Declared) → option_and_then declared_kind o ≡ Some kind.Queue → is_some o ≡ true
     some_of None h = absurd (let z : ⊥ = cc in z)

@@ -34,14 +34,13 @@ use Rattle.wdf_model.specs.rules.Waits.{all_cpus, by_frame, by_request, cause_if
 use Rattle.wdf_model.proofs.Tests.{all_four, both, both_left, both_right, first, itself, not_false}
 use Rattle.wdf_model.proofs.Sames.{callback_decides, handle_decides}
 use Rattle.law_stuck_named_if.specs.Starts.{dpc_may_run, has_callback, step_may_run}
-use Rattle.law_stuck_causes.proofs.Members.{Has, has_flat, has_range}
+use Rattle.law_stuck_causes.proofs.Members.{Has, has_flat, has_kept, has_range}
 use Rattle.law_stuck_causes.proofs.Endings.{AtRest, may_not}
 use Rattle.law_stuck_causes.proofs.Gives.{any_has}
 use Rattle.law_stuck_causes.proofs.Stages.{each_one, handle_itself, none_of, stage_comes, stepping}
 use Rattle.law_stuck_causes.proofs.Needs.{below_cpus, cpu_group, free_one, front_none, no_count, none_first, none_if, none_least, placed_at}
 use Rattle.law_stuck_causes.proofs.Conjuncts.{five}
 use Rattle.law_stuck_named_if.proofs.Dpcs.{free_by_none, head_waits, listed_at}
-use Rattle.law_stuck_named_if.proofs.Presents.{kept_has}
 use Rattle.law_machine_counts.proofs.StepEvents.{sequence_is}
 
 -- ---- lists
@@ -65,7 +64,7 @@ none_queued plan m S rest size may_be d unheld fits i its = elim (cases_Bool (is
       let cpu : ℕ = at.place in
       let within : cpu < plan.cpus = omega arith in
       let it : has_dpc_of plan S d cpu ≡ true = any_has (λ x. contains x (dpcs_of S.dpcs cpu)) i (interrupts_of plan d) its at.passes in
-      let there : Has cpu (cpus_with_dpc plan S d) = kept_has (has_dpc_of plan S d) cpu (all_cpus plan) (has_range cpu 0 plan.cpus (omega arith) (omega arith)) it in
+      let there : Has cpu (cpus_with_dpc plan S d) = has_kept (has_dpc_of plan S d) cpu (all_cpus plan) (has_range cpu 0 plan.cpus (omega arith) (omega arith)) it in
       head_waits plan m S rest cpu i within at.passes (may_be cpu)
       (free_by_none S (head_lock plan S cpu) (none_gathered (λ x. holders_of S (head_lock plan S x)) cpu (cpus_with_dpc plan S d) there unheld))
       (not_false (level_fits S cpu 2) (none_of (λ x. not (level_fits S x 2)) (cpus_with_dpc plan S d) fits cpu there)))

@@ -1,5 +1,5 @@
 -- The line of an object that is being deleted always has a cause.
-use Rattle.std.proofs.Common.{if◌then◌else◌, ◌≡◌, ◌≢◌, ℕ, zero, suc, ◌+◌, ◌==◌, ◌<◌, ◌≤◌, nat_lt, Bool, true, false, not, ◌&&◌, ◌||◌, List, [], ◌∷◌, inl, inr, Option, Some, None, is_some, count_by, find, length, slice_get, refl, sym, ap, subst, ◌∙◌, arith}
+use Rattle.std.proofs.Common.{if◌then◌else◌, ◌≡◌, ◌≢◌, ℕ, zero, suc, ◌+◌, ◌==◌, ◌<◌, ◌≤◌, nat_lt, Bool, true, false, not, ◌&&◌, ◌||◌, List, [], ◌∷◌, inl, inr, Option, Some, None, is_some, count_by, find, length, slice_get, refl, sym, ap, ◌∙◌, arith}
 use Rattle.std.specs.Prelude.{option_and_then, option_map}
 use Rattle.std.specs.List.{list_all}
 use Rattle.std.proofs.lemmas.Bool.{eqb-true}
@@ -39,15 +39,15 @@ use Rattle.wdf_model.specs.rules.Ready.{IsRunOf, ending_of, state_after}
 use Rattle.wdf_model.specs.rules.Starts.{clean_ready, destroy_ready, is_finished, level_fits, may_start}
 use Rattle.wdf_model.specs.rules.Steps.{may}
 use Rattle.wdf_model.specs.rules.Waits.{at_target, by_frame, cause_if, children_first, no_cpu, object_cause, object_cpus, references_cause, target_of_place, users_that_keep, wait_list}
-use Rattle.wdf_model.proofs.Tests.{all_four, both, both_left, both_right, either_false, first, itself, second}
+use Rattle.wdf_model.proofs.Tests.{all_four, both, either_false, first, itself, second}
 use Rattle.wdf_model.proofs.Counts.{count_no, found_at_its_target, not_equal}
 use Rattle.law_machine_base.proofs.Kept.{is_request}
 use Rattle.law_machine_counts.proofs.StillFrames.{asked_there, live_there}
-use Rattle.law_machine_lives.proofs.Lists.{inside}
-use Rattle.law_stuck_causes.proofs.Members.{Has, has_flat, has_range}
+use Rattle.law_machine_lives.proofs.Lists.{all_at, inside}
+use Rattle.law_stuck_causes.proofs.Members.{Has, has_flat, has_image, has_kept, has_range}
 use Rattle.law_stuck_causes.proofs.Endings.{AtRest, at_rest, may_not}
 use Rattle.law_stuck_causes.proofs.Needs.{below_cpus, cpu_group, free_one, none_first, none_if, object_named, placed_at, some_or}
-use Rattle.law_stuck_named_if.proofs.Presents.{declared_within, has_image, kept_has}
+use Rattle.law_stuck_named_if.proofs.Presents.{declared_within}
 use Rattle.law_trace_power.proofs.Belonging.{target_found}
 use Rattle.law_stuck_named.proofs.Lines.{line_tells}
 use Rattle.law_stuck_named.proofs.Runs.{Known, known_now}
@@ -84,11 +84,6 @@ first_of : {T : Type 0} (p : T → Bool) (xs : List T) → 1 ≤ count_by p xs �
 first_of p [] h = absurd (omega arith)
 first_of p (x ∷ xs) h = first_by p x xs (p x) refl h (first_of p xs)
 
-one_of_all : {T : Type 0} (p : T → Bool) (xs : List T) (k : ℕ) (x : T) → list_all p xs ≡ true → slice_get xs k ≡ Some x → p x ≡ true
-one_of_all p [] k x h e = absurd (let z : ⊥ = cc in z)
-one_of_all p (y ∷ ys) zero x h e = let same : y ≡ x = cc in subst (λ z. p z ≡ true) same (both_left (p y) (list_all p ys) h)
-one_of_all p (y ∷ ys) (suc k) x h e = one_of_all p ys k x (both_right (p y) (list_all p ys) h) e
-
 -- ---- tests
 
 there_by : (asked cleaned gone : Bool) → (asked || cleaned) ≡ true → (asked ≡ true → gone ≡ false) → (cleaned ≡ true → gone ≡ false) → gone ≡ false
@@ -115,7 +110,7 @@ none_some (Some x) e h = let z : ⊥ = cc in z
 -- ---- a target of the plan has its completion routine
 
 complete_by : (plan : Plan) (ds : List Declared) (k : ℕ) (d : Declared) → list_all (declared_complete plan) ds ≡ true → slice_get ds k ≡ Some d → declared_complete plan d ≡ true
-complete_by plan ds k d h e = one_of_all (declared_complete plan) ds k d h e
+complete_by plan ds k d h e = all_at (declared_complete plan) ds k d h e
 
 target_complete : (plan : Plan) (t : ℕ) (i : TargetInfo) → IsResolved plan → declared_of plan t ≡ Some (declared.Target i) → declares plan callback.EvtRequestCompletion t ≡ true
 target_complete plan zero i resolved e = absurd (let z : ⊥ = cc in z)
@@ -168,7 +163,7 @@ module _ {A : Type 0} (plan : Plan) (m : Meaning A) (run : List Event) (resolved
       let is : is_some (target_of plan t) ≡ true = ap (λ d. is_some (as_target d)) at in
       let some : is_some (declared_of plan t) ≡ true = ap (λ d. is_some d) at in
       let inside_ = declared_within plan t some in
-      let of_plan : Has t (targets_of plan) = kept_has (λ id. is_some (target_of plan id)) t (declared_ids plan) (has_range t 0 (suc (length plan.declared)) (omega arith) (omega arith)) is in
+      let of_plan : Has t (targets_of plan) = has_kept (λ id. is_some (target_of plan id)) t (declared_ids plan) (has_range t 0 (suc (length plan.declared)) (omega arith) (omega arith)) is in
       let place_low = f.low in
       let here : option_map (λ (s : Sending). starts_for plan S left.0 callback.EvtRequestCompletion t s.request.0) (slice_get (the_target S.targets t).sent f.at) ≡ Some e =
       ap (option_map (λ (s : Sending). starts_for plan S left.0 callback.EvtRequestCompletion t s.request.0)) f.there ∙ ap (λ r. Some (starts_for plan S left.0 callback.EvtRequestCompletion t r)) (eqb-true f.it.request.0 o f.passes) in
@@ -217,7 +212,7 @@ module _ {A : Type 0} (plan : Plan) (m : Meaning A) (run : List Event) (resolved
       let shown : (if is_undone S.targets o then Some (cause.AtTarget (handle_in plan S t.0)) else None) ≡ None =
       sym (ap (λ p. if is_undone S.targets o then option_map (λ x. cause.AtTarget (handle_in plan S x)) (target_of_place p) else None) at) ∙ last.0 in
       let done : is_undone S.targets o ≡ false = no_target_cause (is_undone S.targets o) (cause.AtTarget (handle_in plan S t.0)) shown in
-      let due : is_some (routine_due S.targets o) ≡ true = waits_or_due S.targets o f.it it (one_of_all comes_or_waits (the_target S.targets t.0).sent f.at f.it (well.fair t.0).sent f.there) done in
+      let due : is_some (routine_due S.targets o) ≡ true = waits_or_due S.targets o f.it it (all_at comes_or_waits (the_target S.targets t.0).sent f.at f.it (well.fair t.0).sent f.there) done in
       let free : no_cpu plan S 2 ≡ false =
       no_routine_cpu
       ((clean_ready S o && declares_in plan S callback.EvtCleanupCallback o && not (started S.tree o callback.EvtCleanupCallback)) || (destroy_ready S o && declares_in plan S callback.EvtDestroyCallback o && not (started S.tree o callback.EvtDestroyCallback)))

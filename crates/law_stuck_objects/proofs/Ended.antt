@@ -34,8 +34,9 @@ use Rattle.law_machine_lives.proofs.Stays.{asks_all, gives_up}
 use Rattle.law_stuck_named.proofs.Standing.{Comes, LivesStay, asks_none, lives_by}
 use Rattle.law_machine_lives.proofs.Subtrees.{live_unasked, parent_in, unasked_stays}
 use Rattle.law_machine_lives.proofs.ArrivedStay.{arrival_in}
-use Rattle.law_machine_lives.proofs.Readers.{arrived_requests, arrived_tree, requests_of, tree_of}
+use Rattle.law_machine_lives.proofs.Readers.{requests_of, tree_of}
 use Rattle.law_stuck_objects.proofs.Arrivals.{device_in, devices_stay, parents_stay}
+use Rattle.law_machine_counts.proofs.Arrived.{arrived_requests, arrived_tree}
 
 pub record EndsWell {A : Type 0} (S : State A) : Type 0 where
   -- an object of the kind Request is a child of its device, and younger

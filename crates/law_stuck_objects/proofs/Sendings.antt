@@ -3,9 +3,6 @@
 use Rattle.std.proofs.Common.{◌≡◌, ℕ, ◌==◌, nat_lt, Bool, true, false, not, ◌&&◌, ◌||◌, List, [], ◌∷◌, inl, inr, is_some, filter, map, refl, sym, ap, subst, ◌∙◌}
 use Rattle.std.specs.List.{list_all}
 use Rattle.wdf_base.specs.declared.plan.Plan.{Plan}
-use Rattle.wdf_base.specs.declared.object.Place.{Place}
-use Rattle.wdf_base.specs.declared.object.Place.TheVariants as place
-use Rattle.wdf_base.specs.declared.object.RequestInfo.{RequestInfo}
 use Rattle.wdf_base.specs.declared.value.Status.{Status}
 use Rattle.wdf_model.specs.declared.enums.Mode.TheVariants as mode
 use Rattle.wdf_model.specs.declared.entries.Sending.{Sending}
@@ -18,12 +15,13 @@ use Rattle.wdf_model.specs.parts.Targets.{Target, Targets, done_sending, is_at_t
 use Rattle.wdf_model.specs.State.{State}
 use Rattle.wdf_model.specs.declared.deed.Deed.{Deed}
 use Rattle.wdf_model.specs.declared.deed.Deed.TheVariants.{Arrive, AskDeletion, CloseDevice, CloseReturning, ComeBack, CompleteRequest, FinishSending, Forward, GiveBack, PurgeQueue, Requeue, SendRequest, StartTarget, StopTarget}
-use Rattle.wdf_model.specs.rules.Deeds.{arrive_at, do_deed, give_up}
+use Rattle.wdf_model.specs.rules.Deeds.{do_deed, give_up}
 use Rattle.wdf_model.proofs.Tests.{both, both_left, both_right}
 use Rattle.wdf_model.proofs.Maps.{entry_map}
 use Rattle.wdf_model.proofs.Counts.{done_asks, left_over, one_or_two}
 use Rattle.law_machine_base.proofs.KeptMoves.{target_elsewhere, target_here}
 use Rattle.law_machine_lives.proofs.Stays.{asks_all, gives_up, queues_closed, returns_closed, withdraws}
+use Rattle.law_machine_counts.proofs.Arrived.{arrived_targets}
 
 -- ---- the deeds that leave the targets alone
 
@@ -38,17 +36,13 @@ is_of_targets _ = false
 abbrev targets_in : {A : Type 0} → State A → Targets
 targets_in S = S.targets
 
-came : {A : Type 0} (S : State A) (device : ℕ) (info : RequestInfo) (p : Place) → (arrive_at S device info p).targets ≡ S.targets
-came S device info (place.Queued q) = refl
-came S device info _ = refl
-
 pub targets_stay : {A : Type 0} (plan : Plan) (d : Deed) (S : State A) → is_of_targets d ≡ false → (do_deed plan d S).targets ≡ S.targets
 targets_stay plan (SendRequest r t forget) S off = absurd (let z : ⊥ = cc in z)
 targets_stay plan (FinishSending r s) S off = absurd (let z : ⊥ = cc in z)
 targets_stay plan (ComeBack r) S off = absurd (let z : ⊥ = cc in z)
 targets_stay plan (StopTarget t) S off = absurd (let z : ⊥ = cc in z)
 targets_stay plan (StartTarget t) S off = absurd (let z : ⊥ = cc in z)
-targets_stay plan (Arrive device info p) S off = came S device.0 info p
+targets_stay plan (Arrive device info p) S off = arrived_targets S device.0 info p
 targets_stay plan (AskDeletion o) S off = asks_all targets_in (λ S T D W U. refl) (subtree S.tree o.0) S
 targets_stay plan (Requeue r q) S off = gives_up targets_in (λ S Q R P. refl) S r.0
 targets_stay plan (Forward r q) S off = gives_up targets_in (λ S Q R P. refl) S r.0

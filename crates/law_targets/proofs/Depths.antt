@@ -34,10 +34,7 @@ use Rattle.law_targets.proofs.Hearing.{all_stay}
 use Rattle.law_targets.proofs.Kept.{kept, kept_more, kept_one, marked, next, stays}
 use Rattle.law_targets.proofs.Runs.{Knows, knows_at, room, spares}
 use Rattle.law_targets.proofs.There.{asks, passes, read_counted}
-
-flag_small : (b : Bool) → flag b ≤ 1
-flag_small true = omega arith
-flag_small false = omega arith
+use Rattle.wdf_model.proofs.FrameCounts.{flag_small}
 
 one_left : (s : SentRequest) (xs : List SentRequest) (r : ℕ) (b : Bool) → (s.request.id.0 == r) ≡ b → length (filter (λ (x : SentRequest). not (x.request.id.0 == r)) (s ∷ xs)) + flag (s.request.id.0 == r) ≡ suc (length (filter (λ (x : SentRequest). not (x.request.id.0 == r)) xs))
 one_left s xs r true e = rw e (omega arith)

@@ -17,7 +17,7 @@ use Rattle.wdf_model.proofs.Tests.{either_false}
 use Rattle.wdf_dev.specs.Agents.{agent_meaning}
 use Rattle.law_idle.specs.Idling.{time_after, time_step}
 use Rattle.law_idle.proofs.Meters.{is_tick}
-use Rattle.law_machine_lives.proofs.Lists.{Each, each_behind, each_kept}
+use Rattle.law_machine_lives.proofs.Lists.{Each, each_behind, each_kept, each_still}
 use Rattle.law_machine_once.proofs.OnceEach.{each_image}
 use Rattle.law_trace_power.proofs.Laws.{comes_by}
 use Rattle.law_targets.specs.Targets.{IsAt, cancels, delay_of, finishes, sent_to}
@@ -80,10 +80,6 @@ same_tick : (t : ℕ) (e : Event) (s : SentRequest) (b : Bool) → cancels t s.r
 same_tick t e s true h = rw h refl
 same_tick t e s false h = rw h refl
 
-each_mapped : {T : Type 0} (P Q : T → Type 0) → ((x : T) → P x → Q x) → (xs : List T) → Each P xs → Each Q xs
-each_mapped P Q h [] e = tt
-each_mapped P Q h (x ∷ xs) e = (h x e.0, each_mapped P Q h xs e.1)
-
 -- ---- along a run
 
 module _ (plan : Plan) (run : List Event) (resolved : IsResolved plan) (is_run : IsRunOf plan agent_meaning run) (k t : ℕ) (number : target_of_agent plan k ≡ Some t) where
@@ -105,7 +101,7 @@ module _ (plan : Plan) (run : List Event) (resolved : IsResolved plan) (is_run :
   calm n e off each =
       let es = take n run in
       next_kept t d (Within (now es)) (now es) e (kept t d 0 es)
-      (each_mapped (Within (now es)) (λ s. Within (now es) (marked t e s)) (λ s w. let same = same_tick t e s (cancels t s.request.id.0 e) refl in omega (arith, w, same)) (kept t d 0 es) each)
+      (each_still (Within (now es)) (λ s. Within (now es) (marked t e s)) (λ s w. let same = same_tick t e s (cancels t s.request.id.0 e) refl in omega (arith, w, same)) (kept t d 0 es) each)
       (λ h sent. let small = now_small plan agent_meaning run resolved is_run k t (usual_target plan k t number) n in omega (arith, small))
 
   -- a tick
@@ -114,7 +110,7 @@ module _ (plan : Plan) (run : List Event) (resolved : IsResolved plan) (is_run :
       let es = take n run in
       let none = none_by plan run resolved is_run n k t number time at (find (is_due_sent (now es)) (kept t d 0 es)) refl in
       next_kept t d (Within time) (now es) (event.Tick time) (kept t d 0 es)
-      (each_mapped (λ s. is_due_sent (now es) s ≡ false) (Within time) (λ s off. let later = leb-false s.tick (now es) (either_false s.told (nat_le s.tick (now es)) off).1 in omega (arith, later, is)) (kept t d 0 es) (none_found (is_due_sent (now es)) (kept t d 0 es) none))
+      (each_still (λ s. is_due_sent (now es) s ≡ false) (Within time) (λ s off. let later = leb-false s.tick (now es) (either_false s.told (nat_le s.tick (now es)) off).1 in omega (arith, later, is)) (kept t d 0 es) (none_found (is_due_sent (now es)) (kept t d 0 es) none))
       (λ h sent. absurd (let z : ⊥ = cc in z))
 
   one_more : (n : ℕ) (e : Event) → slice_get run n ≡ Some e → AllWithin (take n run) → AllWithin (take n run ++ e ∷ [])

@@ -62,6 +62,8 @@ use Rattle.law_targets.proofs.Found.{IsFound, found}
 use Rattle.law_targets.proofs.Hearing.{Spares, heard, hears}
 use Rattle.law_targets.proofs.Kept.{kept, kept_more}
 use Rattle.law_targets.proofs.There.{alike_next, asks, no_longer, none_left_out, passes, read_counted}
+use Rattle.law_stack.proofs.Openings.{no_passings}
+use Rattle.law_stack.proofs.Steps.{passings_next}
 
 -- ---- the depth at the opening
 
@@ -75,14 +77,6 @@ in_range plan a (suc n) zero = subst (λ x. (opening_target (target_of plan a)).
 in_range plan a (suc n) (suc t) =
     subst (λ x. (entry no_target (map (λ y. opening_target (target_of plan y)) (range_with_len (a + 1) n)) t).depth ≤ unwrap_or (option_map (λ (i : TargetInfo). i.depth) (target_of plan x)) 0)
     (let e : (a + 1) + t ≡ a + suc t = omega arith in e) (in_range plan (a + 1) n t)
-
-no_passings : (t k : ℕ) → passings t k [] ≡ []
-unfolding passings
-no_passings t k = refl
-
-passings_next : (t k : ℕ) (es : List Event) (e : Event) → passings t k (es ++ e ∷ []) ≡ passing_step t k (passings t k es) e
-unfolding passings
-passings_next t k es e = fold-append (passing_step t k) [] es (e ∷ [])
 
 -- ---- what an agent hears
 

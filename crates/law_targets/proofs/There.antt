@@ -26,6 +26,7 @@ use Rattle.law_stack.specs.Words.{Passing, cancelled_if, has_no_arrival, passing
 use Rattle.law_targets.specs.Targets.{cancels, sent_to}
 use Rattle.law_targets.proofs.Hearing.{all_stay}
 use Rattle.law_targets.proofs.Kept.{kept_one, marked, next, stays}
+use Rattle.law_stack.proofs.Held.{cancel_keeps_one}
 
 -- the requests that are kept, and that pass
 abbrev pub asks : List SentRequest → List ℕ
@@ -65,12 +66,8 @@ next_asks t delay now e xs =
 
 -- ---- the requests that pass
 
-cancel_reads : (named : ℕ → Bool) (p : Passing) (b : Bool) → named p.request ≡ b → (cancelled_if named p).request ≡ p.request
-cancel_reads named p true h = rw h refl
-cancel_reads named p false h = rw h refl
-
 cancel_passes : (named : ℕ → Bool) (ps : List Passing) → passes (with_cancel named ps) ≡ passes ps
-cancel_passes named ps = same_read (λ (p : Passing). p.request) (cancelled_if named) (λ p. cancel_reads named p (named p.request) refl) ps
+cancel_passes named ps = same_read (λ (p : Passing). p.request) (cancelled_if named) (λ p. cancel_keeps_one named p (named p.request) refl) ps
 
 arrival_passes : (answer : Option ℕ) (ps : List Passing) → passes (with_arrival answer ps) ≡ passes ps
 arrival_passes answer [] = refl

@@ -1,5 +1,5 @@
 -- When time passes, no request that a target has is due.
-use Rattle.std.proofs.Common.{if◌then◌else◌, ◌≡◌, inl, inr, ℕ, zero, suc, ◌+◌, ◌<◌, ◌≤◌, nat_lt, Bool, true, false, ◌&&◌, List, [], ◌∷◌, find, length, Option, Some, None, option_map, slice_get, take, refl, ap, subst, ◌∙◌, arith, length-append}
+use Rattle.std.proofs.Common.{if◌then◌else◌, ◌≡◌, inl, inr, ℕ, suc, ◌+◌, ◌<◌, ◌≤◌, nat_lt, Bool, true, false, ◌&&◌, List, [], ◌∷◌, find, length, Option, Some, None, option_map, slice_get, take, refl, ap, subst, ◌∙◌, arith, length-append}
 use Rattle.std.specs.Prelude.{option_and_then}
 use Rattle.std.proofs.lemmas.Option.{same_Some}
 use Rattle.wdf_base.proofs.Tests.{all_three, both}
@@ -51,6 +51,7 @@ use Rattle.law_targets.proofs.Agents.{seen, usual_target}
 use Rattle.law_targets.proofs.Found.{none_due}
 use Rattle.law_targets.proofs.Numbers.{is_there}
 use Rattle.law_targets.proofs.Runs.{as_events, knows_at, waits}
+use Rattle.law_trace_families.proofs.Orders.{get_within}
 
 -- ---- nothing else may come
 
@@ -109,11 +110,6 @@ seen_is : (a : AnyAgent) (u : LowerTarget) → seen a ≡ Some u → a ≡ agent
 seen_is (agent.LowerTarget x) u h = ap agent.LowerTarget (same_Some x u h)
 seen_is _ u h = absurd (let z : ⊥ = cc in z)
 
-got : {T : Type 0} (xs : List T) (k : ℕ) → k < length xs → (x : T) × (slice_get xs k ≡ Some x)
-got [] k h = absurd (omega (arith, h))
-got (x ∷ xs) zero h = (x, refl)
-got (x ∷ xs) (suc k) h = got xs k (omega (arith, h))
-
 module _ (plan : Plan) (run : List Event) (resolved : IsResolved plan) (is_run : IsRunOf plan agent_meaning run) (n k t : ℕ) (number : target_of_agent plan k ≡ Some t) where
   abbrev es : List Event
   es = take n run
@@ -131,7 +127,7 @@ module _ (plan : Plan) (run : List Event) (resolved : IsResolved plan) (is_run :
   low = let all = (room_is_kept plan agent_meaning run resolved is_run n).sizes.agents in let one = is_there plan resolved k t number in omega (arith, all, one)
 
   agent_is : slice_get here.agents k ≡ Some (agent.LowerTarget u)
-  agent_is = let a = got here.agents k low in a.1 ∙ ap Some (seen_is a.0 u ((knows_at plan agent_meaning k t (usual_target plan k t number) run is_run n).sees a.0 a.1))
+  agent_is = let a = get_within here.agents k low in a.1 ∙ ap Some (seen_is a.0 u ((knows_at plan agent_meaning k t (usual_target plan k t number) run is_run n).sees a.0 a.1))
 
   places : PlacesAgree here
   places = places_agree plan agent_meaning run is_run n

@@ -7,7 +7,6 @@ use Rattle.wdf_base.specs.declared.ids.Handle.{Handle}
 use Rattle.wdf_base.specs.declared.object.Kind.{Kind}
 use Rattle.wdf_base.specs.declared.object.Kind.TheVariants as kind
 use Rattle.wdf_base.specs.declared.object.RequestForm.{RequestForm}
-use Rattle.wdf_base.specs.declared.object.RequestForm.TheVariants as form
 use Rattle.wdf_base.specs.declared.call.Callback.{Callback}
 use Rattle.wdf_base.specs.declared.call.Callback.TheVariants as callback
 use Rattle.wdf_base.specs.declared.rank.Rank.{Rank}
@@ -38,13 +37,9 @@ use Rattle.wdf_model.specs.parts.Deferred.WorkItems.{is_work_queued}
 use Rattle.wdf_model.specs.rules.Groups.{handler_start, start_at, start_for, start_of_step, starts, starts_for}
 use Rattle.wdf_model.specs.rules.Starts.{is_finished, line_is_up, presents, rank_ready, rank_ready_for, step_of, stop_is_due}
 use Rattle.law_touched.proofs.Starts.{SameOn, alone, chained_alike, for_request, if_may, mapped_alike, there_alike}
+use Rattle.law_machine_once.proofs.Places.{typed_rank}
 
 -- ---- the ranks of handlers
-
-typed_rank : (f : RequestForm) → (row_of (typed_handler f)).rank ≡ rank.Handler
-typed_rank form.Read = refl
-typed_rank form.Write = refl
-typed_rank form.Control = refl
 
 handler_rank_by : (f : RequestForm) (c : Callback) (a b : Bool) → (if a then Some (typed_handler f) else if b then Some callback.EvtIoDefault else None) ≡ Some c → (row_of c).rank ≡ rank.Handler
 handler_rank_by f c true b h = let same : typed_handler f ≡ c = cc in ap (λ x. (row_of x).rank) (sym same) ∙ typed_rank f

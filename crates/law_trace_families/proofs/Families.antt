@@ -7,12 +7,14 @@ use Rattle.wdf_base.specs.declared.plan.Plan.{Plan}
 use Rattle.wdf_base.specs.declared.object.Kind.TheVariants as kind
 use Rattle.wdf_base.specs.declared.declared.Declared.{Declared}
 use Rattle.wdf_base.specs.declared.declared.Declared.TheVariants as declared
+use Rattle.wdf_base.specs.declared.declared.DeviceInfo.{DeviceInfo}
 use Rattle.wdf_base.specs.declared.event.Event.{Event}
 use Rattle.wdf_base.specs.declared.event.Event.TheVariants as event
 use Rattle.wdf_base.specs.Kinds.{declared_kind}
 use Rattle.wdf_base.specs.Plan.{declared_of}
 use Rattle.wdf_model.specs.declared.entries.Node.{Node}
 use Rattle.wdf_model.specs.Tables.{entry}
+use Rattle.wdf_model.specs.Plans.{as_device}
 use Rattle.wdf_model.specs.parts.Tree.{Tree, declared_as, declared_node, gone, kind_of, life_of, opening_tree, parent_of}
 use Rattle.wdf_model.specs.State.{State, declared_in}
 use Rattle.wdf_model.specs.rules.Steps.{after, may}
@@ -171,7 +173,12 @@ same_parent : (d : Declared) → (declared_node d).parent.0 ≡ declared_parent 
 same_parent declared.Driver = refl
 same_parent _ = refl
 
-declared_at : (ds : List Declared) (k : ℕ) (d : Declared) → slice_get ds k ≡ Some d → entry gone (map declared_node ds) k ≡ declared_node d
+-- what is a device is declared as one
+pub device_info : (o : Option Declared) → is_some (as_device o) ≡ true → (d : DeviceInfo) × (o ≡ Some (declared.Device d))
+device_info (Some (declared.Device d)) h = (d, refl)
+device_info _ h = absurd (let z : ⊥ = cc in z)
+
+pub declared_at : (ds : List Declared) (k : ℕ) (d : Declared) → slice_get ds k ≡ Some d → entry gone (map declared_node ds) k ≡ declared_node d
 declared_at [] k d h = absurd (let z : ⊥ = cc in z)
 declared_at (x ∷ xs) zero d h = let same : x ≡ d = cc in ap declared_node same
 declared_at (x ∷ xs) (suc k) d h = declared_at xs k d h

@@ -208,7 +208,7 @@ all_there [] k d h = absurd (let z : ⊥ = cc in z)
 all_there (x ∷ xs) zero d h = refl
 all_there (x ∷ xs) (suc k) d h = all_there xs k d h
 
-declared_there : (plan : Plan) (x : ℕ) (d : Declared) → declared_of plan x ≡ Some d → is_gone (life_of (opening_tree plan) x) ≡ false
+pub declared_there : (plan : Plan) (x : ℕ) (d : Declared) → declared_of plan x ≡ Some d → is_gone (life_of (opening_tree plan) x) ≡ false
 declared_there plan zero d h = absurd (let z : ⊥ = cc in z)
 declared_there plan (suc k) d h = all_there plan.declared k d h
 

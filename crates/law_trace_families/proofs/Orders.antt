@@ -282,7 +282,7 @@ child_by plan m run k x o is_run at known = by (law.parent_of plan run x == o.id
     by true e = rw e (child_ended plan m run k x o is_run at known (eqb-true (law.parent_of plan run x) o.id.0 e))
     by false e = rw e refl
 
-get_within : {T : Type 0} (xs : List T) (k : ℕ) → k < length xs → (y : T) × (slice_get xs k ≡ Some y)
+pub get_within : {T : Type 0} (xs : List T) (k : ℕ) → k < length xs → (y : T) × (slice_get xs k ≡ Some y)
 get_within [] k h = absurd (omega arith)
 get_within (x ∷ xs) zero h = (x, refl)
 get_within (x ∷ xs) (suc k) h = get_within xs k (omega arith)

@@ -28,8 +28,9 @@ use Rattle.law_machine_counts.proofs.StillFrames.{asked_there, live_there}
 use Rattle.law_machine_lives.proofs.Keeping.{deeds_keep}
 use Rattle.law_machine_lives.proofs.Stays.{gives_up}
 use Rattle.law_machine_lives.proofs.Lists.{reads_same}
-use Rattle.law_machine_lives.proofs.Readers.{arrived_tree, tree_of}
+use Rattle.law_machine_lives.proofs.Readers.{tree_of}
 use Rattle.law_machine_lives.proofs.PartsStay.{tree_stays}
+use Rattle.law_machine_counts.proofs.Arrived.{arrived_tree}
 
 -- an object was there, with the parent, the kind and the class that it has
 pub record WasAt (T U : Tree) (x : ℕ) : Type 0 where

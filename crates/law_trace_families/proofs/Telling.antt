@@ -50,7 +50,7 @@ use Rattle.law_machine_base.proofs.FitsOfEvents.{by_its_top}
 use Rattle.wdf_laws.specs.declared.sign.Told.{Told}
 use Rattle.wdf_laws.specs.Events.{argument_object, id_in, or_none, told, told_by_call, told_of, value_object}
 use Rattle.wdf_laws.specs.Family.{told_class}
-use Rattle.law_machine_lives.proofs.Readers.{arrived_tree}
+use Rattle.law_machine_counts.proofs.Arrived.{arrived_tree}
 
 -- what is told of an object: it is made now
 pub record Makes (plan : Plan) (T U : Tree) (t : Told) : Type 0 where
@@ -77,7 +77,7 @@ class_made plan n o (Some (class.Plain name plain.Object)) = refl
 class_made plan n o (Some (class.Deferred name deferred.Dpc parent serialize period)) = refl
 class_made plan n o _ = refl
 
-creates : {A : Type 0} (plan : Plan) (S : State A) (k : Kind) (class parent : ℕ) → (do_deeds plan (creation k class parent ∷ []) S).tree ≡ tree.create S.tree k class parent
+pub creates : {A : Type 0} (plan : Plan) (S : State A) (k : Kind) (class parent : ℕ) → (do_deeds plan (creation k class parent ∷ []) S).tree ≡ tree.create S.tree k class parent
 creates plan S kind.Made class parent = refl
 creates plan S _ class parent = refl
 

@@ -5,10 +5,9 @@ use Rattle.wdf_base.specs.declared.object.Mark.TheVariants as marks
 use Rattle.wdf_base.specs.declared.object.Place.{Place}
 use Rattle.wdf_base.specs.declared.object.Place.TheVariants as place
 use Rattle.wdf_base.specs.declared.object.RequestInfo.{RequestInfo}
-use Rattle.wdf_base.specs.declared.value.Status.{Status}
 use Rattle.wdf_base.specs.declared.value.Status.TheVariants as status
 use Rattle.wdf_base.specs.declared.event.Event.{Event}
-use Rattle.wdf_base.specs.Places.{is_done, is_marked, is_returning_to, is_sent}
+use Rattle.wdf_base.specs.Places.{is_done, is_marked, is_returning_to}
 use Rattle.wdf_model.specs.declared.enums.Mode.TheVariants as mode
 use Rattle.wdf_model.specs.declared.entries.Request.{Request}
 use Rattle.wdf_model.specs.Plans.{managed_queues, queues_of}
@@ -31,7 +30,9 @@ use Rattle.law_machine_lives.proofs.Lists.{Each}
 use Rattle.law_machine_lives.proofs.Stays.{asks_all, given, given_if}
 use Rattle.std.specs.List.{list_all}
 use Rattle.law_machine_deeds.specs.MayDo.{completing, may_do}
-use Rattle.law_machine_lives.proofs.Readers.{arrived_requests, requests_of}
+use Rattle.law_machine_lives.proofs.Readers.{requests_of}
+use Rattle.law_machine_counts.proofs.Arrived.{arrived_requests}
+use Rattle.law_machine_counts.proofs.Undone.{finished_undone}
 
 -- a request that arrived is done
 abbrev pub is_finished_request : Request → Bool
@@ -134,15 +135,6 @@ arrival_undone : (p : Place) → is_arrival_place p ≡ true → is_done p ≡ f
 arrival_undone place.Done h = absurd (let z : ⊥ = cc in z)
 arrival_undone _ h = refl
 
-finish_undone : (b : Bool) (s : Status) (p : Place) → is_sent p ≡ true → is_done (finished_at b s p) ≡ false
-finish_undone true s p h = refl
-finish_undone false s (place.Sent t) h = refl
-finish_undone false s (place.Queued q) h = refl
-finish_undone false s (place.Returning q) h = refl
-finish_undone false s (place.Closing c) h = refl
-finish_undone false s place.Owned h = refl
-finish_undone false s place.Done h = absurd (let z : ⊥ = cc in z)
-
 -- the request that a deed completes
 abbrev pub Completes : Deed → ℕ → Type 0
 Completes (CompleteRequest r) x = x ≡ r.0
@@ -173,7 +165,7 @@ deed_finishes plan (TakeCancel r) S f x n h = changed S.requests r.0 (with_mark 
 deed_finishes plan (SendRequest r t forget) S f x n h =
     was_then S.requests (give_up_if forget S r.0).requests (do_deed plan (SendRequest r t forget) S).requests (same_requests S.requests (give_up_if forget S r.0).requests (given_if requests_of (λ S Q P. refl) S forget r.0))
     (moved_to (give_up_if forget S r.0).requests r.0 (place.Sent (record { 0 = t.0 })) refl) x h
-deed_finishes plan (FinishSending r s) S f x n h = moved_to S.requests r.0 (finished_at (is_forgotten S.targets r.0) s (place_of S.requests r.0)) (finish_undone (is_forgotten S.targets r.0) s (place_of S.requests r.0) (search both_left)) x h
+deed_finishes plan (FinishSending r s) S f x n h = moved_to S.requests r.0 (finished_at (is_forgotten S.targets r.0) s (place_of S.requests r.0)) (finished_undone (is_forgotten S.targets r.0) s (place_of S.requests r.0) (search both_left)) x h
 deed_finishes plan (ComeBack r) S f x n h = moved_to S.requests r.0 place.Owned refl x h
 deed_finishes {A} plan (CompleteRequest r) S f x n h =
     let U : State A = record (give_up S r.0) { requests = requests.complete S.requests r.0 } in

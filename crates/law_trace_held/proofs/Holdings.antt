@@ -26,8 +26,9 @@ use Rattle.wdf_model.proofs.Maps.{entry_map}
 use Rattle.law_machine_lives.proofs.Stays.{asks_all, closed_power, returning_power, withdrawn_power}
 use Rattle.law_machine_counts.proofs.Holding.{HoldsIn}
 use Rattle.law_machine_counts.proofs.Releases.{Notes, gives_up, holding_elsewhere, holding_here, same_holding}
-use Rattle.law_machine_lives.proofs.Readers.{arrived_power, power_of}
+use Rattle.law_machine_lives.proofs.Readers.{power_of}
 use Rattle.law_machine_counts.proofs.HeldByDeeds.{woken_by}
+use Rattle.law_machine_counts.proofs.Arrived.{arrived_power}
 
 -- the queue that is noted for a request, 0 for none
 abbrev pub noted : Power → ℕ → ℕ

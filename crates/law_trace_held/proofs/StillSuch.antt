@@ -26,8 +26,9 @@ use Rattle.wdf_model.proofs.Counts.{one_or_two}
 use Rattle.law_machine_lives.proofs.Stays.{asks_all, closed_power, returning_power, withdrawn_power}
 use Rattle.law_machine_counts.proofs.Releases.{holding_elsewhere, holding_here}
 use Rattle.law_trace_requests.proofs.Entries.{forward_by}
-use Rattle.law_machine_lives.proofs.Readers.{arrived_power, power_of}
+use Rattle.law_machine_lives.proofs.Readers.{power_of}
 use Rattle.law_trace_held.proofs.Holdings.{completed_power, is_holding}
+use Rattle.law_machine_counts.proofs.Arrived.{arrived_power}
 
 give_power : {A : Type 0} (S : State A) (r : ℕ) (b : Bool) → is_with_driver S r ≡ b → (give_up S r).power ≡ (if b then release_power S.power r else S.power)
 give_power S r true e = rw e refl

@@ -30,7 +30,7 @@ use Rattle.law_machine_lives.proofs.Lists.{reads_same}
 use Rattle.wdf_laws.specs.declared.sign.Sign.TheVariants as sign
 use Rattle.wdf_laws.specs.Signs.{shows}
 use Rattle.wdf_laws.specs.Words.{ever}
-use Rattle.law_machine_lives.proofs.Readers.{arrived_tree, tree_of}
+use Rattle.law_machine_lives.proofs.Readers.{tree_of}
 use Rattle.law_machine_lives.proofs.Lives.{noted_life}
 use Rattle.law_machine_lives.proofs.CleanedOver.{live_uncleaned, none_cleaned, unmade}
 use Rattle.law_machine_lives.proofs.Keeping.{comes}
@@ -39,6 +39,7 @@ use Rattle.law_trace_once.proofs.Words.{ever_next}
 use Rattle.law_machine_deeds.specs.MayDo.{is_cleanup}
 use Rattle.law_trace_once.proofs.Untouched.{cleans, event_none, none_cleans}
 use Rattle.law_trace_once.proofs.Ends.{ends}
+use Rattle.law_machine_counts.proofs.Arrived.{arrived_tree}
 
 -- C is true of each object that is cleaned
 abbrev pub Seen : (ℕ → Bool) → Tree → Type 0

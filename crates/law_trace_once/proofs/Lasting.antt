@@ -20,10 +20,11 @@ use Rattle.wdf_model.proofs.Counts.{one_or_two}
 use Rattle.law_machine_base.proofs.Deletion.{object_live, object_off}
 use Rattle.law_machine_lives.proofs.Stays.{gives_up}
 use Rattle.law_machine_lives.proofs.Lists.{reads_same}
-use Rattle.law_machine_lives.proofs.Readers.{arrived_tree, tree_of}
+use Rattle.law_machine_lives.proofs.Readers.{tree_of}
 use Rattle.law_machine_lives.proofs.Lives.{noted_life}
 use Rattle.law_machine_lives.proofs.PartsStay.{tree_stays}
 use Rattle.law_machine_counts.proofs.StillFrames.{asked_at}
+use Rattle.law_machine_counts.proofs.Arrived.{arrived_tree}
 
 -- a test of lives that no object passes before its cleanup, and each one passes that is gone
 pub record Late (P : Life → Bool) : Type 0 where

@@ -11,8 +11,6 @@ use Rattle.wdf_base.specs.declared.declared.Declared.{Declared}
 use Rattle.wdf_base.specs.declared.object.Kind.{Kind}
 use Rattle.wdf_base.specs.declared.object.Kind.TheVariants as kind
 use Rattle.wdf_base.specs.declared.object.Life.TheVariants as life
-use Rattle.wdf_base.specs.declared.call.Callback.{Callback}
-use Rattle.wdf_base.specs.declared.call.Callback.TheVariants as callback
 use Rattle.wdf_model.specs.declared.entries.Node.{Node}
 use Rattle.wdf_model.specs.Tables.{entry}
 use Rattle.wdf_model.specs.parts.Tree.{Tree, declared_node, gone, life_of, new_node, next_id, node_of, noted, opening_tree, subtree, with_life, with_node}
@@ -37,8 +35,8 @@ use Rattle.wdf_model.specs.rules.Calls.{is_met_then}
 use Rattle.law_machine_base.specs.FactsOfEvents.{IsTick}
 use Rattle.law_machine_base.proofs.Follows.{follows}
 use Rattle.law_machine_lives.proofs.Keeping.{comes, deeds_keep as keep_deeds, each_place}
-use Rattle.law_machine_counts.proofs.Trees.{cleaned_there}
-use Rattle.law_machine_lives.proofs.Readers.{arrived_tree, tree_of}
+use Rattle.law_machine_counts.proofs.Trees.{cleaned_there, noted_references}
+use Rattle.law_machine_lives.proofs.Readers.{tree_of}
 use Rattle.law_machine_lives.proofs.PartsStay.{tree_stays}
 use Rattle.law_trace_once.proofs.Lasting.{Past, deed_keeps}
 use Rattle.wdf_model.specs.rules.Steps.{did_deeds}
@@ -69,6 +67,7 @@ use Rattle.wdf_model.proofs.Tests.{either_false}
 use Rattle.wdf_laws.specs.Words.{times}
 use Rattle.wdf_laws.specs.Events.{argument_object, is_id, where_so}
 use Rattle.law_trace_once.proofs.Uncounted.{event_none, is_counting, is_counting_event, is_reference_call, none_counts}
+use Rattle.law_machine_counts.proofs.Arrived.{arrived_tree}
 
 -- ---- deeds that leave references alone
 
@@ -98,10 +97,6 @@ all_asked : {A : Type 0} (xs : List ℕ) (S : State A) → SameRefs S.tree (fold
 all_asked [] S y = refl
 all_asked (x ∷ xs) S y = all_asked xs (ask_object S x) y ∙ asked_one S x (is_live (life_of S.tree x)) refl y
 
-noted_kept : (c : Callback) (n : Node) → (noted c n).references ≡ n.references
-noted_kept callback.EvtDestroyCallback n = refl
-noted_kept _ n = refl
-
 deed_same : {A : Type 0} (plan : Plan) (d : Deed) (S : State A) → is_counting d ≡ false → SameRefs S.tree (do_deed plan d S).tree
 deed_same plan (Create k class parent) S f x = made S.tree k class parent.0 x
 deed_same plan (MakeRequest class parent) S f x = made S.tree kind.Made class parent.0 x
@@ -110,7 +105,7 @@ deed_same plan (AskDeletion o) S f x = all_asked (subtree S.tree o.0) S x
 deed_same plan (Refer o) S f x = absurd (let z : ⊥ = cc in z)
 deed_same plan (Unrefer o) S f x = absurd (let z : ⊥ = cc in z)
 deed_same plan (WriteCell o k v) S f x = changes S.tree o.0 (λ n. record n { cells = slice_set n.cells k v }) refl x
-deed_same plan (Note o c) S f x = changes S.tree o.0 (noted c) (noted_kept c (node_of S.tree o.0)) x
+deed_same plan (Note o c) S f x = changes S.tree o.0 (noted c) (noted_references c (node_of S.tree o.0)) x
 deed_same plan (CleanUp o) S f x = changes S.tree o.0 (with_life life.Cleaned) refl x
 deed_same plan (EndLife o) S f x = absurd (let z : ⊥ = cc in z)
 deed_same plan (CompleteRequest r) S f x =

@@ -12,8 +12,7 @@ use Rattle.wdf_model.specs.parts.Cpus.{Cpus}
 use Rattle.wdf_model.specs.parts.Requests as requests
 use Rattle.wdf_model.specs.parts.Queues.{waiting_in}
 use Rattle.wdf_model.specs.parts.Control as control
-use Rattle.wdf_model.specs.parts.Power.{Power, holding_of, is_held}
-use Rattle.wdf_model.specs.parts.Power as power
+use Rattle.wdf_model.specs.parts.Power.{holding_of, is_held}
 use Rattle.wdf_model.specs.parts.Pnp.{Pnp}
 use Rattle.wdf_model.specs.parts.Interrupts.{Interrupts}
 use Rattle.wdf_model.specs.State.{State, is_with_driver}
@@ -25,6 +24,7 @@ use Rattle.law_machine_lives.proofs.Stays.{asks_all, gives_up, gives_up_if, queu
 use Rattle.law_machine_lives.proofs.Sound.{AllSound, Sound}
 use Rattle.law_machine_lives.proofs.FramesStay.{FramesGoOn, frames_by}
 use Rattle.law_trace_power.proofs.Unmoved.{is_moving, none_moves}
+use Rattle.law_machine_counts.proofs.PowerQueues.{held_devices, released_devices}
 
 pub record Calm {A : Type 0} (S U : State A) : Type 0 where
   pub pnp : U.pnp ≡ S.pnp
@@ -49,20 +49,12 @@ calm_then S U V a b = record { pnp = b.pnp ∙ a.pnp; devices = b.devices ∙ a.
 abbrev devices_in : {A : Type 0} → State A → List DevicePower
 devices_in S = S.power.devices
 
-pub released_by : (P : Power) (r : ℕ) (b : Bool) → (if b then power.held_less P r else P).devices ≡ P.devices
-released_by P r true = refl
-released_by P r false = refl
-
-held_by : (P : Power) (r q : ℕ) (b : Bool) → (if b then power.held_more P r q else P).devices ≡ P.devices
-held_by P r q true = refl
-held_by P r q false = refl
-
 given_by : {A : Type 0} (S U : State A) (b : Bool) → devices_in U ≡ devices_in S → devices_in (if b then U else S) ≡ devices_in S
 given_by S U true h = h
 given_by S U false h = refl
 
 given : {A : Type 0} (S : State A) (r : ℕ) → devices_in (give_up S r) ≡ devices_in S
-given S r = given_by S _ (is_with_driver S r) (released_by S.power r (is_held (holding_of S.power r)))
+given S r = given_by S _ (is_with_driver S r) (released_devices S.power r (is_held (holding_of S.power r)))
 
 given_if : {A : Type 0} (S : State A) (forget : Bool) (r : ℕ) → devices_in (give_up_if forget S r) ≡ devices_in S
 given_if S true r = given S r
@@ -87,8 +79,8 @@ arrived S device info _ = refl
 devices_by : {A : Type 0} (plan : Plan) (d : Deed) (S : State A) → is_moving d ≡ false → devices_in (do_deed plan d S) ≡ devices_in S
 devices_by plan (Arrive device info p) S h = arrived S device.0 info p
 devices_by plan (AskDeletion o) S h = asks_all devices_in (λ S T D W U. refl) (subtree S.tree o.0) S
-devices_by plan (Present q r) S h = held_by S.power r.0 q.0 (is_managed plan q.0)
-devices_by plan (Receive q r) S h = held_by S.power r.0 q.0 (is_managed plan q.0)
+devices_by plan (Present q r) S h = held_devices S.power r.0 q.0 (is_managed plan q.0)
+devices_by plan (Receive q r) S h = held_devices S.power r.0 q.0 (is_managed plan q.0)
 devices_by plan (Requeue r q) S h = given S r.0
 devices_by plan (Forward r q) S h = given S r.0
 devices_by plan (GiveBack r q) S h = given S r.0

@@ -1,6 +1,5 @@
 -- Each event that may come keeps what holds of devices, of their interrupts, and of the frames of their steps.
-use Rattle.std.proofs.Common.{◌≡◌, ◌≢◌, ℕ, ◌==◌, Bool, true, false, not, ◌&&◌, ◌||◌, List, [], ◌∷◌, ◌++◌, inl, inr, Option, Some, None, drop, length, is_some, refl, sym, ap, subst, ◌∙◌, arith, rules}
-use Rattle.std.specs.Bool.{Decides}
+use Rattle.std.proofs.Common.{◌≡◌, ◌≢◌, ℕ, ◌==◌, Bool, true, false, not, ◌&&◌, ◌||◌, List, [], ◌∷◌, ◌++◌, inl, inr, Option, Some, None, drop, length, is_some, refl, sym, ap, subst, ◌∙◌, arith}
 use Rattle.std.proofs.lemmas.Bool.{eqb-true}
 use Rattle.wdf_base.specs.declared.ids.Cpu.{Cpu}
 use Rattle.wdf_base.specs.declared.ids.Handle.{Handle}
@@ -25,7 +24,7 @@ use Rattle.wdf_model.specs.parts.Pnp.{Pnp, Sequence, busy, is_running_step, left
 use Rattle.wdf_model.specs.parts.Pnp as pnp
 use Rattle.wdf_model.specs.parts.Interrupts.{Interrupts, is_enabled}
 use Rattle.wdf_model.proofs.Maps.{entry_put_other, entry_put_same}
-use Rattle.wdf_model.proofs.Sames.{callback_decides, handle_decides}
+use Rattle.wdf_model.proofs.Sames.{callback_decides}
 use Rattle.wdf_model.proofs.Tests.{both_left, both_right, either_false, not_false}
 use Rattle.wdf_model.proofs.Counts.{equal, not_equal, one_or_two}
 use Rattle.wdf_laws.specs.declared.sign.Sign.TheVariants as sign
@@ -37,6 +36,7 @@ use Rattle.wdf_base.specs.declared.declared.InterruptInfo.{InterruptInfo}
 use Rattle.law_trace_power.specs.Steps.{is_for}
 use Rattle.law_trace_power.proofs.Holding.{EndShows, Holds, Silent, asks_for, begins_to, ends_to, nothing, unwatched, watch}
 use Rattle.law_trace_power.proofs.Passing.{enabling, may_pass_next, passes_to, power_by}
+use Rattle.law_machine_counts.proofs.Sames.{option_handle_is, stage_decides}
 
 -- what holds of each device, with each number for an interrupt
 abbrev pub AllHold : Plan → Pnp → List DevicePower → Interrupts → List Event → Type 0
@@ -51,21 +51,12 @@ hold_silent plan Q D I es e s h d i = nothing plan es e d i (sequence_of Q d) (e
 
 -- ---- steps that are found
 
-stage_decides : (a b : Stage) → Decides (same_stage a b) (a ≡ b)
-stage_decides a b = search rules
-
-handles_same : (a b : Option Handle) → same_option same_handle a b ≡ true → a ≡ b
-handles_same None None h = refl
-handles_same None (Some b) h = absurd (let z : ⊥ = cc in z)
-handles_same (Some a) None h = absurd (let z : ⊥ = cc in z)
-handles_same (Some a) (Some b) h = ap Some ((handle_decides a b).0 h)
-
 pub found_run : (ss : List Step) (c : Callback) (j : Option Handle) → same_option same_step (first_of_list ss) (Some (step.Run c j)) ≡ true → ss ≡ step.Run c j ∷ drop 1 ss
 found_run [] c j h = absurd (let z : ⊥ = cc in z)
 found_run (step.Pass t l ∷ ts) c j h = absurd (let z : ⊥ = cc in z)
 found_run (step.Run b l ∷ ts) c j h =
     let same : b ≡ c = (callback_decides b c).0 (both_left (same_callback b c) (same_option same_handle l j) h) in
-    let too : l ≡ j = handles_same l j (both_right (same_callback b c) (same_option same_handle l j) h) in
+    let too : l ≡ j = option_handle_is l j (both_right (same_callback b c) (same_option same_handle l j) h) in
     ap (λ x. step.Run x l ∷ ts) same ∙ ap (λ x. step.Run c x ∷ ts) too
 
 pub found_pass : (ss : List Step) (s : Stage) (j : Option Handle) → same_option same_step (first_of_list ss) (Some (step.Pass s j)) ≡ true → ss ≡ step.Pass s j ∷ drop 1 ss
@@ -73,7 +64,7 @@ found_pass [] s j h = absurd (let z : ⊥ = cc in z)
 found_pass (step.Run b l ∷ ts) s j h = absurd (let z : ⊥ = cc in z)
 found_pass (step.Pass t l ∷ ts) s j h =
     let same : t ≡ s = (stage_decides t s).0 (both_left (same_stage t s) (same_option same_handle l j) h) in
-    let too : l ≡ j = handles_same l j (both_right (same_stage t s) (same_option same_handle l j) h) in
+    let too : l ≡ j = option_handle_is l j (both_right (same_stage t s) (same_option same_handle l j) h) in
     ap (λ x. step.Pass x l ∷ ts) same ∙ ap (λ x. step.Pass s x ∷ ts) too
 
 pub not_running : (r : Option Step) → is_some r ≡ false → r ≡ None
@@ -102,7 +93,7 @@ stage_elsewhere device stage.QueuesDown j d h = (refl, refl, h, refl)
 stage_elsewhere device _ j d h = (refl, refl, refl, refl)
 
 -- the same test of two modules
-success_same : (v : Value) → pnp.is_success v ≡ laws_success v
+pub success_same : (v : Value) → pnp.is_success v ≡ laws_success v
 success_same (Num n) = refl
 success_same _ = refl
 

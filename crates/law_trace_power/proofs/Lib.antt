@@ -14,3 +14,4 @@ pub mod Runs
 pub mod Laws
 pub mod Belonging
 pub mod Isrs
+pub mod Sequences

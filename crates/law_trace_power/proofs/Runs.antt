@@ -1,5 +1,5 @@
 -- What holds of devices holds at each place of every run of a resolved plan.
-use Rattle.std.proofs.Common.{◌≡◌, ℕ, zero, suc, ◌+◌, ◌==◌, ◌≤◌, Bool, true, false, not, ◌||◌, List, [], ◌∷◌, ◌++◌, ◌⊎◌, inl, inr, Option, Some, None, is_some, length, map, slice_get, take, refl, sym, ap, subst, ◌∙◌, arith}
+use Rattle.std.proofs.Common.{◌≡◌, ℕ, zero, suc, ◌+◌, ◌==◌, ◌≤◌, Bool, true, false, not, ◌||◌, List, [], ◌∷◌, ◌++◌, ◌⊎◌, inl, inr, Option, Some, None, is_some, length, map, take, refl, sym, ap, subst, ◌∙◌, arith}
 use Rattle.std.specs.List.{range_with_len}
 use Rattle.std.proofs.Math.Bool.{and-false}
 use Rattle.wdf_base.specs.Meaning.{Meaning}
@@ -39,7 +39,7 @@ use Rattle.law_trace_power.proofs.Holding.{Holds, watch}
 use Rattle.law_trace_power.proofs.Lists.{not_either}
 use Rattle.law_trace_power.proofs.Declares.{declares_device, entry_declared, is_device, no_working, once_by}
 use Rattle.law_trace_power.proofs.Events.{Kept, keeps, quiet}
-use Rattle.law_machine_counts.proofs.StepsOverRuns.{none_yet}
+use Rattle.law_machine_counts.proofs.StepsOverRuns.{no_device, none_yet}
 
 -- ---- the opening
 
@@ -47,15 +47,6 @@ pub mapped : {T : Type 0} (blank : T) (f : ℕ → T) (a n d : ℕ) → ((x : �
 mapped blank f a zero d past = sym (past (a + d) (omega arith))
 mapped blank f a (suc n) zero past = let e : a + 0 ≡ a = omega arith in rw e refl
 mapped blank f a (suc n) (suc d) past = let e : a + suc d ≡ a + 1 + d = omega arith in rw e (mapped blank f (a + 1) n d (λ x h. past x (omega arith)))
-
-beyond : (ds : List Declared) (x : ℕ) → length ds ≤ x → slice_get ds x ≡ None
-beyond [] x h = refl
-beyond (d ∷ ds) zero h = absurd (omega arith)
-beyond (d ∷ ds) (suc x) h = beyond ds x (omega arith)
-
-pub no_device : (plan : Plan) (x : ℕ) → suc (length plan.declared) ≤ x → device_of plan x ≡ None
-no_device plan zero h = absurd (omega arith)
-no_device plan (suc x) h = ap as_device (beyond plan.declared x (omega arith))
 
 by_plan : {T : Type 0} (plan : Plan) (blank : T) (f : ℕ → T) (d : ℕ) → ((x : ℕ) → device_of plan x ≡ None → f x ≡ blank) → entry blank (map f (declared_ids plan)) d ≡ f d
 by_plan plan blank f d off = let e : 0 + d ≡ d = omega arith in rw e at (mapped blank f 0 (suc (length plan.declared)) d (λ x h. off x (no_device plan x (omega arith))))

@@ -25,7 +25,8 @@ use Rattle.wdf_model.proofs.Counts.{equal, one_or_two}
 use Rattle.law_machine_lives.proofs.Queued.{any_entry}
 use Rattle.law_machine_lives.proofs.Stays.{asks_all, closed_power, returning_power, withdrawn_power}
 use Rattle.law_trace_power.proofs.Runs.{mapped}
-use Rattle.law_machine_lives.proofs.Readers.{arrived_power, power_of}
+use Rattle.law_machine_lives.proofs.Readers.{power_of}
+use Rattle.law_machine_counts.proofs.Arrived.{arrived_power}
 
 -- ---- one request
 

@@ -41,8 +41,8 @@ use Rattle.law_machine_counts.proofs.Exchanges.{contained}
 use Rattle.law_machine_lives.proofs.Sound.{Sound}
 use Rattle.law_machine_lives.proofs.Stays.{asks_all, given, given_if}
 use Rattle.law_machine_lives.proofs.Readers.{requests_of}
-use Rattle.law_trace_power.proofs.Calm.{released_by}
 use Rattle.law_machine_lives.proofs.Places.{marked_place, unmarked_place}
+use Rattle.law_machine_counts.proofs.PowerQueues.{released_devices}
 
 -- ---- the property
 
@@ -62,7 +62,7 @@ given_by S U true h = h
 given_by S U false h = refl
 
 given_devices : {A : Type 0} (S : State A) (r : ℕ) → devices_of (give_up S r) ≡ devices_of S
-given_devices S r = given_by S _ (is_with_driver S r) (released_by S.power r (is_held (holding_of S.power r)))
+given_devices S r = given_by S _ (is_with_driver S r) (released_devices S.power r (is_held (holding_of S.power r)))
 
 module _ (plan : Plan) (D : List DevicePower) where
   abbrev At : Place → Type 0

@@ -61,7 +61,6 @@ use Rattle.wdf_laws.specs.declared.sign.Sign.TheVariants as sign
 use Rattle.wdf_laws.specs.Events.{id_in, is_id, where_so}
 use Rattle.wdf_laws.specs.Signs.{shows}
 use Rattle.wdf_laws.specs.Laws.{is_cancel_due, law_7}
-use Rattle.law_machine_lives.proofs.Readers.{arrived_requests}
 use Rattle.law_machine_lives.proofs.Keeping.{comes}
 use Rattle.law_machine_lives.proofs.ReasonsOfCalls.{call_of}
 use Rattle.law_trace_requests.proofs.Happened.{ever_next, never_yet}
@@ -70,6 +69,7 @@ use Rattle.law_trace_requests.proofs.Marks.{Goes, GoesAt, GoesOf, StillGoes, can
 use Rattle.law_trace_requests.proofs.FirstParts.{did_after, start_reads}
 use Rattle.law_trace_requests.proofs.Gives.{completes_off, completes_still}
 use Rattle.law_trace_requests.proofs.Cancels.{AllGo, Begun, all_next, did_goes, has_begun, marks_stand, next_goes, was_posted}
+use Rattle.law_machine_counts.proofs.Arrived.{arrived_requests}
 
 -- ---- calls
 

@@ -4,7 +4,6 @@ use Rattle.std.proofs.Common.{if◌then◌else◌, ◌≡◌, ◌≢◌, ℕ, �
 use Rattle.std.proofs.lemmas.Bool.{cases_Bool}
 use Rattle.std.proofs.lemmas.List.{length-map}
 use Rattle.wdf_base.specs.declared.plan.Plan.{Plan}
-use Rattle.wdf_base.specs.declared.value.Status.{Status}
 use Rattle.wdf_base.specs.declared.value.Status.TheVariants as status
 use Rattle.wdf_base.specs.declared.object.Mark.{Mark}
 use Rattle.wdf_base.specs.declared.object.Mark.TheVariants as marks
@@ -35,8 +34,9 @@ use Rattle.wdf_model.proofs.Counts.{flag_yes, front_leaves, one_or_two}
 use Rattle.law_machine_base.proofs.KeptByDeeds.{KeptIn, deed_keeps, is_arrival, owned_undone}
 use Rattle.law_machine_lives.proofs.Stays.{asks_all, given, given_if}
 use Rattle.law_machine_lives.proofs.Readers.{requests_of}
-use Rattle.law_machine_lives.proofs.Places.{inside_undone, returning_undone, sent_undone}
+use Rattle.law_machine_lives.proofs.Places.{inside_undone, sent_undone}
 use Rattle.law_trace_requests.proofs.Quiet.{is_loud, none_loud}
+use Rattle.law_machine_counts.proofs.Undone.{finished_undone, queued_undone, returning_undone}
 
 -- ---- one request
 
@@ -231,14 +231,6 @@ new_request_comes R r p info new off m c b x g =
     ])
 
 -- ---- places
-
-queued_undone : (q : ℕ) (p : Place) → is_queued_in q p ≡ true → is_done p ≡ false
-queued_undone q place.Done h = absurd (let z : ⊥ = cc in z)
-queued_undone q _ h = refl
-
-finished_undone : (forgotten_ : Bool) (s : Status) (p : Place) → is_sent p ≡ true → is_done (finished_at forgotten_ s p) ≡ false
-finished_undone true s p h = refl
-finished_undone false s p h = sent_undone p h
 
 pub withdrawn_unmarked : {A : Type 0} (plan : Plan) (S : State A) (q r : ℕ) (k : Mark) → mark_at (withdrawn_place plan S q r) k ≡ marks.Unmarked
 withdrawn_unmarked plan S q r k = elim (cases_Bool ((info_of S.requests r).received && returns_to plan S q)) [

@@ -430,7 +430,7 @@ pub record AgreesAfter {A : Type 0} (plan : Plan) (es : List Event) (S : State A
   pub number : (frames_after es).number ≡ length es
   pub agrees : Agrees plan (frames_after es).stacks (frames_after es).begun S
 
-frames_next : (es : List Event) (e : Event) → frames_after (es ++ e ∷ []) ≡ frames_step (frames_after es) e
+pub frames_next : (es : List Event) (e : Event) → frames_after (es ++ e ∷ []) ≡ frames_step (frames_after es) e
 unfolding frames_after
 frames_next es e = fold-append frames_step no_frames es (e ∷ [])
 

@@ -158,7 +158,7 @@ deeds_stacks plan (d ∷ ds) S h =
 -- ---- a lock is given back
 
 -- how often a lock is held, one way and the other
-two_holds : (p q r : Held → Bool) → ((h : Held) → flag (p h) + flag (q h) ≤ flag (r h)) → (hs : List Held) → count_by p hs + count_by q hs ≤ count_by r hs
+pub two_holds : (p q r : Held → Bool) → ((h : Held) → flag (p h) + flag (q h) ≤ flag (r h)) → (hs : List Held) → count_by p hs + count_by q hs ≤ count_by r hs
 two_holds p q r less [] = omega arith
 two_holds p q r less (h ∷ hs) =
     let a = count_cons p h hs in let b = count_cons q h hs in let c = count_cons r h hs in

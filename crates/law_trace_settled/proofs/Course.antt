@@ -34,6 +34,7 @@ use Rattle.law_trace_families.proofs.Gone.{ever_now, ever_still}
 use Rattle.law_trace_settled.proofs.Along.{Way, asked, failed, fits, may_begin, may_pass, next, passes}
 use Rattle.law_trace_settled.proofs.Moves.{Asked, Begun, Ended, Moved, Passed, Unmoved}
 use Rattle.law_machine_counts.proofs.StepMoves.{passed_running}
+use Rattle.law_trace_power.proofs.Sequences.{passed_left}
 
 -- ---- words
 
@@ -170,10 +171,6 @@ pub not_shown : (n : Handle) (s : Stage) (j : Option Handle) (d : ℕ) → d ≢
 not_shown n stage.QueuesUp j d x = (not_equal n.id.0 d (λ e. x (sym e)), refl)
 not_shown n stage.QueuesDown j d x = (refl, not_equal n.id.0 d (λ e. x (sym e)))
 not_shown n _ j d x = (refl, refl)
-
-pub passed_left : (s : Stage) (q : Sequence) → (pnp.passed s q).left ≡ q.left
-passed_left stage.Removed q = refl
-passed_left _ q = refl
 
 module _ (plan : Plan) (D : List DevicePower) (es : List Event) (n : Handle) (j : Option Handle) (ss : List Step) (q : Sequence) (k : OnCourse plan q (up_in D n.id.0) es n.id.0) where
   fits_next : (s : Stage) → q.left ≡ step.Pass s j ∷ ss → (may_pass s k.way && fits ss (passes s k.way)) ≡ true

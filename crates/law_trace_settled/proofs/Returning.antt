@@ -30,9 +30,10 @@ use Rattle.wdf_model.proofs.Tests.{both_right, first, second}
 use Rattle.wdf_model.proofs.Maps.{entry_map, entry_put_other, entry_put_same, entry_set_other, set_read}
 use Rattle.wdf_model.proofs.Counts.{one_or_two}
 use Rattle.law_machine_lives.proofs.Stays.{asks_all, given, given_if}
-use Rattle.law_machine_lives.proofs.Readers.{arrived_requests, requests_of}
-use Rattle.law_trace_power.proofs.Calm.{released_by}
+use Rattle.law_machine_lives.proofs.Readers.{requests_of}
 use Rattle.law_machine_lives.proofs.Places.{marked_place, unmarked_place}
+use Rattle.law_machine_counts.proofs.Arrived.{arrived_requests}
+use Rattle.law_machine_counts.proofs.PowerQueues.{released_devices}
 
 -- ---- requests
 
@@ -140,9 +141,9 @@ given_by S U true h = h
 given_by S U false h = refl
 
 given_devices : {A : Type 0} (S : State A) (r : ℕ) → (give_up S r).power.devices ≡ S.power.devices
-given_devices S r = given_by S _ (is_with_driver S r) (released_by S.power r (is_held (holding_of S.power r)))
+given_devices S r = given_by S _ (is_with_driver S r) (released_devices S.power r (is_held (holding_of S.power r)))
 
-given_requests : {A : Type 0} (S : State A) (r : ℕ) → (give_up S r).requests ≡ S.requests
+pub given_requests : {A : Type 0} (S : State A) (r : ℕ) → (give_up S r).requests ≡ S.requests
 given_requests S r = given requests_of (λ S Q P. refl) S r
 
 -- ---- deeds

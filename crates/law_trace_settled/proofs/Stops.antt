@@ -1,7 +1,6 @@
 -- While a frame of EvtIoStop is there, the next step of its device is `settled`.
-use Rattle.std.proofs.Common.{◌≡◌, ◌≢◌, ℕ, ◌==◌, ◌≤◌, Bool, true, false, not, ◌&&◌, List, [], ◌∷◌, inl, inr, Option, Some, None, is_some, drop, length, refl, sym, ap, subst, ◌∙◌, arith}
+use Rattle.std.proofs.Common.{◌≡◌, ◌≢◌, ℕ, ◌==◌, ◌≤◌, Bool, true, false, not, ◌&&◌, List, [], ◌∷◌, inl, inr, Option, Some, None, is_some, drop, length, refl, sym, ap, subst, ◌∙◌}
 use Rattle.std.specs.List.{list_all}
-use Rattle.std.proofs.lemmas.Bool.{eqb-true}
 use Rattle.wdf_base.specs.Meaning.{Meaning}
 use Rattle.wdf_base.specs.Resolved.{IsResolved}
 use Rattle.wdf_base.specs.declared.ids.Cpu.{Cpu}
@@ -32,7 +31,7 @@ use Rattle.wdf_model.specs.rules.Steps.{is_cpu, is_proper_if_any, may}
 use Rattle.law_machine_base.specs.OverRuns.{DeclaredAgree}
 use Rattle.wdf_model.proofs.Maps.{entry_put_other}
 use Rattle.wdf_model.proofs.Sames.{callback_decides}
-use Rattle.wdf_model.proofs.Tests.{both_left, both_right, either_false, not_false}
+use Rattle.wdf_model.proofs.Tests.{both_left, both_right, either_false}
 use Rattle.wdf_model.proofs.Counts.{one_or_two}
 use Rattle.law_machine_lives.proofs.Framing.{off_it}
 use Rattle.law_machine_lives.proofs.LivesOver.{Lives}
@@ -47,6 +46,7 @@ use Rattle.law_trace_settled.proofs.Near.{near_queue}
 use Rattle.law_trace_settled.proofs.Never.{no_stage, not_empty, not_so, not_such}
 use Rattle.law_trace_settled.proofs.Queues.{of_device, of_each}
 use Rattle.wdf_model.proofs.FrameCounts.{on}
+use Rattle.law_machine_lives.proofs.Lists.{none_left}
 
 -- the next step of a device is `settled`
 abbrev pub IsNext : Pnp → ℕ → Type 0
@@ -62,12 +62,8 @@ StopFrames plan C Q = (f : ℕ) → 1 ≤ on C f → same_callback (frame_of C f
 
 -- ---- the next step stays
 
-unlike : (c : Callback) (j l : Option Handle) (ss ts : List Step) → step.Run c j ∷ ss ≡ step.Pass stage.Settled l ∷ ts → ⊥
+pub unlike : (c : Callback) (j l : Option Handle) (ss ts : List Step) → step.Run c j ∷ ss ≡ step.Pass stage.Settled l ∷ ts → ⊥
 unlike c j l ss ts h = cc
-
-none_left : (ss : List Step) → not (length ss == 0) ≡ false → ss ≡ []
-none_left [] x = refl
-none_left (s ∷ ss) x = let e : length (s ∷ ss) ≡ 0 = eqb-true (length (s ∷ ss)) 0 (not_false (length (s ∷ ss) == 0) x) in absurd (omega arith)
 
 next_by : (Q R : Pnp) (d : ℕ) → steps_left R d ≡ steps_left Q d → IsNext Q d → IsNext R d
 next_by Q R d same n = (n.0, subst (λ ss. ss ≡ step.Pass stage.Settled n.0 ∷ drop 1 ss) (sym same) n.1)
@@ -115,7 +111,7 @@ start_parts plan m S cpu c o r h =
     let t : a ≡ true = both_left a b (both_left (a && b) l (both_left (a && b && l) (is_ready_for plan m S cpu c o r) h)) in
     (both_left (declares_in plan S c o) (life_fits S c o) t, both_right (declares_in plan S c o) (life_fits S c o) t)
 
-same_stage_of : (s : Stage) (j l : Option Handle) (ss ts : List Step) → step.Pass s j ∷ ss ≡ step.Pass stage.Settled l ∷ ts → s ≡ stage.Settled
+pub same_stage_of : (s : Stage) (j l : Option Handle) (ss ts : List Step) → step.Pass s j ∷ ss ≡ step.Pass stage.Settled l ∷ ts → s ≡ stage.Settled
 same_stage_of s j l ss ts h = let z : s ≡ stage.Settled = cc in z
 
 module _ {A : Type 0} (plan : Plan) (m : Meaning A) (S U : State A) (es : List Event) (e : Event) (resolved : IsResolved plan) (agree : DeclaredAgree plan S) (lives : Lives S.tree) (family : Family plan es S.tree)

@@ -1,0 +1,33 @@
+#!/usr/bin/env python3
+"""A test of `unused_imports.py`: it takes away what nothing names, and leaves what a line names as a word, as an operator, by its new name,
+or for others; a comment names nothing."""
+
+import sys
+
+from unused_imports import without_unused
+
+CASES = [
+    # the text, what is left of it, what is unused
+    ("use A.B.{x, y}\nf = x\n", "use A.B.{x}\nf = x\n", ["A.B.y"]),
+    ("use A.{x}\nf = 1 -- x\n", "f = 1 -- x\n", ["A.x"]),
+    ("use A.{◌+◌, ◌≤◌}\nf = a + b\n", "use A.{◌+◌}\nf = a + b\n", ["A.◌≤◌"]),
+    ("use A.{if◌then◌else◌}\nf = if a then b else c\n", None, []),
+    ("use A.{x as y}\nf = y.z\n", None, []),
+    ("use A.{x as y}\nf = x\n", "f = x\n", ["A.x as y"]),
+    ("pub use A.{x}\nuse B as b\n", None, []),
+    ("use A.{[], ◌∷◌}\nf = []\n", "use A.{[]}\nf = []\n", ["A.◌∷◌"]),
+    ("use A.{drop}\nf = drop-all\n", None, []),
+]
+
+
+def main():
+    wrong = 0
+    for text, left, unused in CASES:
+        if without_unused(text) != (text if left is None else left, unused):
+            print(f"test_unused_imports: wrong: {text!r} gives {without_unused(text)}")
+            wrong += 1
+    sys.exit(1 if wrong else 0)
+
+
+if __name__ == "__main__":
+    main()
