@@ -1,5 +1,5 @@
 -- The law of each device with a timeout is the law on idle runs.
-use Rattle.std.proofs.Common.{◌≡◌, ℕ, zero, suc, ◌+◌, ◌==◌, Bool, true, false, not, ◌&&◌, ◌||◌, nat_lt, nat_le, min, codes, inl, inr, List, [], ◌∷◌, length, find, unwrap_or, option_map, is_some, Option, Some, None, refl, sym, ap, subst, ◌∙◌, arith}
+use Rattle.std.proofs.Common.{◌≡◌, ℕ, zero, suc, ◌+◌, ◌==◌, Bool, true, false, not, ◌&&◌, ◌||◌, nat_lt, nat_le, min, codes, inl, inr, List, [], ◌∷◌, length, filter, find, map, unwrap_or, option_map, is_some, Option, Some, None, refl, sym, ap, subst, ◌∙◌, arith}
 use Rattle.std.specs.List.{list_all}
 use Rattle.std.proofs.lemmas.Bool.{eqb-true}
 use Rattle.std.proofs.lemmas.Bool.Decides.{nat_tests}
@@ -20,9 +20,10 @@ use Rattle.wdf_model.specs.agents.IdlePolicy.{LONGEST_TIMEOUT, is_register_named
 use Rattle.law_idle.specs.Idling.{has_pending, is_asleep, is_awake, is_held, since, time_after}
 use Rattle.law_idle.specs.Idling as words
 use Rattle.law_idle.specs.Law.{is_sent_to_sleep, is_well_rested, is_woken_by_line, keeps_idle_law, takes_part}
+use Rattle.law_idle.specs.Law as law
 use Rattle.law_idle.proofs.RestRuns.{device_is_declared}
 use Rattle.law_idle.proofs.Told.{none_as}
-use Rattle.law_stuck_causes.proofs.Members.{Has, each_here, each_kept, has_kept, has_mapped, has_range}
+use Rattle.law_stuck_causes.proofs.Members.{Has, each_here, each_kept, has_mapped, has_range}
 use Rattle.law_trace_families.proofs.Families.{declared_within}
 use Rattle.check_idle.specs.Watched.{Watched, is_used, keeps, keeps_ask, keeps_event, rests_well, sleeps_in_time, wakes_in_time, watched}
 use Rattle.check_idle.specs.Timed.{timed_by, timed_devices, watches_after}
@@ -65,13 +66,22 @@ is_timed plan d h =
 
 -- ---- which devices are declared
 
+kept_later : (p : ℕ → Bool) (x y : ℕ) (ys : List ℕ) (b : Bool) → p y ≡ b → Has x (filter p ys) → Has x (filter p (y ∷ ys))
+kept_later p x y ys true e h = rw e (inr h)
+kept_later p x y ys false e h = rw e h
+
+kept_has : (p : ℕ → Bool) (x : ℕ) (xs : List ℕ) → Has x xs → p x ≡ true → Has x (filter p xs)
+kept_has p x [] h k = absurd h
+kept_has p x (y ∷ ys) (inl e) k = let is : p y ≡ true = ap p (sym e) ∙ k in rw is (inl e)
+kept_has p x (y ∷ ys) (inr h) k = kept_later p x y ys (p y) refl (kept_has p x ys h k)
+
 abbrev is_declared : Plan → ℕ → Bool
 is_declared plan d = is_some (device_of plan d)
 
 declared_by : (plan : Plan) (d : ℕ) (o : Option DeviceInfo) → device_of plan d ≡ o → is_some o ≡ true → Has d (devices_of plan)
 declared_by plan d (Some info) at h =
     let within = declared_within plan d _ (device_is_declared plan d info at) in
-    has_kept (is_declared plan) d (declared_ids plan) (has_range d 0 (suc (length plan.declared)) (omega arith) (omega (arith, within))) (ap is_some at)
+    kept_has (is_declared plan) d (declared_ids plan) (has_range d 0 (suc (length plan.declared)) (omega arith) (omega (arith, within))) (ap is_some at)
 declared_by plan d None at h = absurd (let z : ⊥ = cc in z)
 
 is_device : (plan : Plan) (d : ℕ) → is_declared plan d ≡ true → Has d (devices_of plan)

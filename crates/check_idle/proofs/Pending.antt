@@ -12,7 +12,6 @@ use Rattle.law_idle.specs.Idling.{has_pending}
 use Rattle.check_past.proofs.Words.{ever_next}
 use Rattle.check_idle.specs.Watched.{arrival_for, is_open, pending_of, with_arrival, without_completed}
 use Rattle.check_idle.proofs.Lists.{append_none, kept_alike, kept_twice}
-use Rattle.std.proofs.Math.Bool.{or-false}
 
 -- ---- none is pending where each arrival is settled
 
@@ -45,12 +44,16 @@ used_as d es = ap not (sym (settled_as es d es))
 flipped : (a b : ℕ) → (a == b) ≡ (b == a)
 flipped a b = grind (arith, nat_tests)
 
+or_no : (a : Bool) → (a || false) ≡ a
+or_no true = refl
+or_no false = refl
+
 nor : (a b : Bool) → not (a || b) ≡ (not a && not b)
 nor true b = refl
 nor false b = refl
 
 completed_by : (es : List Event) (e : Event) (o : Option ℕ) → completed e ≡ o → (xs : List ℕ) → filter (is_open (es ++ e ∷ [])) xs ≡ without_completed o (filter (is_open es) xs)
-completed_by es e None h xs = kept_alike (is_open (es ++ e ∷ [])) (is_open es) (λ r. sym (ap not (ever_next (sign.Completion r) es e ∙ ap (λ o. ever (sign.Completion r) es || is_id r o) h ∙ or-false (ever (sign.Completion r) es)))) xs
+completed_by es e None h xs = kept_alike (is_open (es ++ e ∷ [])) (is_open es) (λ r. sym (ap not (ever_next (sign.Completion r) es e ∙ ap (λ o. ever (sign.Completion r) es || is_id r o) h ∙ or_no (ever (sign.Completion r) es)))) xs
 completed_by es e (Some c) h xs =
     kept_twice (is_open es) (λ r. not (r == c)) (is_open (es ++ e ∷ []))
     (λ r. ap not (ever_next (sign.Completion r) es e ∙ ap (λ o. ever (sign.Completion r) es || is_id r o) h) ∙ nor (ever (sign.Completion r) es) (c == r) ∙ ap (λ b. is_open es r && not b) (flipped c r)) xs

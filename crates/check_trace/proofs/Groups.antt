@@ -18,7 +18,6 @@ use Rattle.check_past.specs.Groups.{with_arrival, with_arrival_in, arrived_for, 
 use Rattle.check_past.specs.Past.{Read, before}
 use Rattle.check_trace.specs.Tests.{is_done, has_ended, is_answered}
 use Rattle.check_past.proofs.Words.{step_in, at_next}
-use Rattle.law_machine_counts.proofs.WaitsOverRuns.{or_together}
 
 -- one item more, asked too
 all_next : {X : Type 0} (p : X → Bool) (xs : List X) (x : X) → list_all p (xs ++ x ∷ []) ≡ (list_all p xs && p x)
@@ -63,12 +62,16 @@ managed_is : (d : ℕ) (queue : Option QueueInfo) → is_id d (manager queue) �
 managed_is d None = refl
 managed_is d (Some q) = managed_case d q.device.0 q.powered
 
+or_assoc : (a b c : Bool) → (a || (b || c)) ≡ ((a || b) || c)
+or_assoc true b c = refl
+or_assoc false b c = refl
+
 taking_asked : (plan : Plan) (es : List Event) (d : ℕ) (t : Option Taking) (xs : List Taking) → list_all (is_answered es d) (with_taking plan d t xs) ≡ (list_all (is_answered es d) xs && is_acknowledged plan es d t)
 taking_asked plan es d None xs = sym (and-true _)
 taking_asked plan es d (Some t) xs =
     all_added (is_answered es d) (manager (queue_of plan t.queue)) t d xs
     ∙ ap (λ b. list_all (is_answered es d) xs && (not b || is_answered es d t)) (managed_is d (queue_of plan t.queue))
-    ∙ ap (λ b. list_all (is_answered es d) xs && b) (or_together (not (is_managed_of d (queue_of plan t.queue))) _ _)
+    ∙ ap (λ b. list_all (is_answered es d) xs && b) (or_assoc (not (is_managed_of d (queue_of plan t.queue))) _ _)
 
 taking_in : (plan : Plan) (es : List Event) (d : ℕ) (o : Option Event) (xs : List Taking)
     → list_all (is_answered es d) (with_taking_in plan d o xs) ≡ step_in (λ b e. b && is_acknowledged_at plan es d e) (list_all (is_answered es d) xs) o

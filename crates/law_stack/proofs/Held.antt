@@ -58,7 +58,7 @@ use Rattle.law_stack.specs.Words.{Passing, cancelled_if, has_no_arrival, passing
 use Rattle.law_stack.proofs.Counting.{times_of}
 use Rattle.law_stack.proofs.Undone.{all_calm, back_others, done_others, is_calm, sent_more, undone, waits_at}
 use Rattle.law_machine_counts.proofs.Totals.{flagged}
-use Rattle.wdf_model.proofs.FrameCounts.{flag_small, flag_small as small}
+use Rattle.wdf_model.proofs.FrameCounts.{flag_small}
 
 -- how often a request is among the Sends
 abbrev pub sends_of : ℕ → List Passing → ℕ
@@ -125,7 +125,7 @@ IsThere T t ps = (r : ℕ) → sends_of r ps ≤ undone T t r
 waits_fewer_by : (r : ℕ) (s : Sending) (xs : List Sending) (b : Bool) → (s.request.0 == r) ≡ b → count_by (waits_at r) xs ≤ count_by (λ s. s.request.0 == r) xs → count_by (waits_at r) (s ∷ xs) ≤ count_by (λ s. s.request.0 == r) (s ∷ xs)
 waits_fewer_by r s xs true e rest =
     let a = count_cons (waits_at r) s xs in let b = count_cons (λ (s : Sending). s.request.0 == r) s xs in
-    let f : flag (s.request.0 == r) ≡ 1 = ap flag e in let g : flag (waits_at r s) ≤ 1 = small (waits_at r s) in omega (arith, a, b, f, g, rest)
+    let f : flag (s.request.0 == r) ≡ 1 = ap flag e in let g : flag (waits_at r s) ≤ 1 = flag_small (waits_at r s) in omega (arith, a, b, f, g, rest)
 waits_fewer_by r s xs false e rest =
     let a = count_cons (waits_at r) s xs in let b = count_cons (λ (s : Sending). s.request.0 == r) s xs in
     let f : flag (s.request.0 == r) ≡ 0 = ap flag e in let g : flag (waits_at r s) ≡ 0 = ap flag (ap (λ c. c && is_at_target s.outcome) e) in omega (arith, a, b, f, g, rest)
