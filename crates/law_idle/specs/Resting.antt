@@ -9,7 +9,7 @@ use Rattle.wdf_base.specs.Callbacks.{is_query}
 use Rattle.wdf_model.specs.declared.enums.Phase.{Phase}
 use Rattle.wdf_model.specs.declared.enums.Phase.TheVariants.{Sleeping}
 use Rattle.wdf_model.specs.parts.Pnp.{Sequence}
-use Rattle.law_trace_power.specs.Steps.{is_working}
+use Rattle.wdf_model.specs.agents.StackManager.{is_working}
 use Rattle.law_idle.specs.Idling.{Rest}
 use Rattle.law_trace_power.specs.UnderWay.{under_way}
 
