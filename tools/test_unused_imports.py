@@ -1,10 +1,10 @@
 #!/usr/bin/env python3
 """A test of `unused_imports.py`: it takes away what nothing names, and leaves what a line names as a word, as an operator, by its new name,
-or for others; a comment names nothing."""
+or for others; a comment names nothing. Of code also traits are left, and the end of a range names what it is."""
 
 import sys
 
-from unused_imports import without_unused
+from unused_imports import code_without_unused, without_unused
 
 CASES = [
     # the text, what is left of it, what is unused
@@ -19,12 +19,27 @@ CASES = [
     ("use A.{drop}\nf = drop-all\n", None, []),
 ]
 
+CODE_CASES = [
+    # the same of code, where `Draw` is a trait
+    ("use a::{x, y};\nfn f() { x() }\n", "use a::{x};\nfn f() { x() }\n", ["a::y"]),
+    ("use a::x;\nfn f() { g.x() }\n", "fn f() { g.x() }\n", ["a::x"]),
+    ("use a::x;\nfn f() { g(0..x) }\n", None, []),
+    ("use a::Draw;\nuse b::*;\npub use c::z;\nfn f() {}\n", None, []),
+    ("ghost use A.B as b;\nfn f()\n    ensures { result ≡ b.c }\n{}\n", None, []),
+    ("ghost use A.{◌+◌, ◌≤◌};\nfn f()\n    requires { a + b } // ≤\n{}\n", "ghost use A.{◌+◌};\nfn f()\n    requires { a + b } // ≤\n{}\n", ["A.◌≤◌"]),
+    ("use a::{\n    x,\n    y,\n};\nfn f() { y }\n", "use a::{y};\nfn f() { y }\n", ["a::x"]),
+]
+
 
 def main():
     wrong = 0
     for text, left, unused in CASES:
         if without_unused(text) != (text if left is None else left, unused):
             print(f"test_unused_imports: wrong: {text!r} gives {without_unused(text)}")
+            wrong += 1
+    for text, left, unused in CODE_CASES:
+        if code_without_unused(text, {"Draw"}) != (text if left is None else left, unused):
+            print(f"test_unused_imports: wrong: {text!r} gives {code_without_unused(text, {'Draw'})}")
             wrong += 1
     sys.exit(1 if wrong else 0)
 

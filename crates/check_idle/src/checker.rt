@@ -1,5 +1,5 @@
 //! The first event that breaks the law.
-ghost use Rattle.std.specs.Prelude.{◌≡◌, ◌↔◌, ◌<◌, length, slice_get, IfOk, IsNone, Some};
+ghost use Rattle.std.specs.Prelude.{◌≡◌, ◌↔◌, ◌<◌, IfOk, IsNone, Some};
 ghost use Rattle.wdf_base.specs.Resolved.{IsResolved};
 ghost use Rattle.wdf_model.specs.rules.Ready.{IsRunOf};
 ghost use Rattle.wdf_idle.specs.Agents.{idle_meaning};
@@ -9,16 +9,9 @@ ghost use Rattle.law_idle.specs.Law.{KeepsIdleLaw};
 ghost use Rattle.check_idle.specs.First.{IsFirstBreak};
 
 use crate::watches::{any_breaks, feed_all, open_all};
-use check_past::Past;
+use check_past::{Past, event_at};
 use std::alloc::Global;
 use wdf_base::{Event, Memory, Plan};
-
-fn event_at(events: &[Event], k: usize) -> &Event
-    requires { k < length events.now }
-    ensures { slice_get events.now k ≡ Some result.now }
-{
-    &events[k]
-}
 
 /// The tick after an event.
 fn time_after(now: u64, event: &Event) -> u64

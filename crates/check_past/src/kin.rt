@@ -1,6 +1,7 @@
 //! Parents and classes, and the scope locks of callbacks, from the whole list.
 ghost use Rattle.std.specs.Prelude.{◌≡◌, ℕ, nat_eq, length, OnOk, IfOk};
 ghost use Rattle.std.specs.HashMap.{get};
+ghost use Rattle.wdf_model.specs.parts.Tree as tree;
 ghost use Rattle.wdf_laws.specs.Events as told;
 ghost use Rattle.wdf_laws.specs.Family as family;
 ghost use Rattle.check_past.specs.Kin as kin;
@@ -62,7 +63,7 @@ fn read_told(alloc: Global, plan: &Plan, all: &[Event]) -> Result<HashMap<u32, T
 }
 
 fn declared_parent(declared: &Declared) -> u32
-    ensures { result ≡ family.declared_parent declared.now }
+    ensures { result ≡ tree.declared_parent declared.now }
 {
     match declared {
         Declared::Driver => 0,

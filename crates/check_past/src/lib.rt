@@ -19,5 +19,5 @@ mod shown;
 mod signs;
 
 pub use begun::{Frames, is_on};
-pub use past::Past;
+pub use past::{Past, event_at};
 pub use shown::Shown;

@@ -44,7 +44,8 @@ impl<'a> Model for Past<'a> {
     ghost invariant = { λ p. IsPast p.kin p.children p.number p.signs p.lists };
 }
 
-fn event_at(events: &[Event], k: usize) -> &Event
+/// The event at a place of a list that has it.
+pub fn event_at(events: &[Event], k: usize) -> &Event
     requires { k < length events.now }
     ensures { slice_get events.now k ≡ Some result.now }
 {

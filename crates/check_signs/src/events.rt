@@ -1,11 +1,9 @@
 //! What one event is.
 ghost use Rattle.std.specs.Prelude.{◌≡◌};
 ghost use Rattle.wdf_laws.specs.Events as told;
-ghost use Rattle.wdf_model.specs.rules.Faults as faults;
 
 use wdf_base::{
-    Arg, Call, CallKind, Callback, Event, Handle, Plan, Post, Rank, Stage, Status, Value,
-    same_callback, same_status,
+    Arg, Call, CallKind, Callback, Event, Handle, Plan, Post, Rank, Stage, Value, same_callback,
 };
 use wdf_declared::parent_of_class;
 use wdf_laws::{Taking, Told};
@@ -35,33 +33,6 @@ fn argument_object(argument: Arg) -> Option<u32>
     }
 }
 
-fn is_success(answer: Value) -> bool
-    ensures { result ≡ told.is_success answer }
-{
-    match answer {
-        Value::Stat(s) => same_status(s, Status::Success),
-        _ => false,
-    }
-}
-
-fn is_one(answer: Value) -> bool
-    ensures { result ≡ told.is_one answer }
-{
-    match answer {
-        Value::Num(n) => n == 1,
-        _ => false,
-    }
-}
-
-fn is_number(argument: Arg, number: u64) -> bool
-    ensures { result ≡ faults.arg_is argument number }
-{
-    match argument {
-        Arg::Val(Value::Num(n)) => n == number,
-        _ => false,
-    }
-}
-
 fn where_so(test: bool, id: Option<u32>) -> Option<u32>
     ensures { result ≡ told.where_so test id }
 {
@@ -87,7 +58,7 @@ pub fn called_well(kind: CallKind, event: &Event) -> Option<u32>
 {
     match event {
         Event::Did { call, answer, .. } => where_so(
-            same_call_kind(call.kind, kind) && is_success(*answer),
+            same_call_kind(call.kind, kind) && answer.is_success(),
             argument_object(call.a),
         ),
         _ => None,
@@ -135,9 +106,9 @@ pub fn ended_on(kind: Callback, well: bool, event: &Event) -> Option<u32>
         } => where_so(
             same_callback(*callback, kind)
                 && (if well {
-                    is_success(*value)
+                    value.is_success()
                 } else {
-                    !is_success(*value)
+                    !value.is_success()
                 }),
             Some(object.id.0),
         ),
@@ -308,9 +279,9 @@ fn is_giving_up(call: &Call, answer: Value) -> bool
     match call.kind {
         CallKind::WdfRequestComplete => true,
         CallKind::WdfRequestRequeue => true,
-        CallKind::WdfRequestForwardToIoQueue => is_success(answer),
-        CallKind::WdfRequestStopAcknowledge => !is_number(call.b, 0),
-        CallKind::WdfRequestSend => is_number(call.c, 1) && is_one(answer),
+        CallKind::WdfRequestForwardToIoQueue => answer.is_success(),
+        CallKind::WdfRequestStopAcknowledge => !call.b.is_number(0),
+        CallKind::WdfRequestSend => call.c.is_number(1) && answer.is_one(),
         _ => false,
     }
 }
@@ -334,7 +305,7 @@ fn is_heading(call: &Call) -> bool
 {
     match call.kind {
         CallKind::WdfRequestRequeue => true,
-        CallKind::WdfRequestStopAcknowledge => !is_number(call.b, 0),
+        CallKind::WdfRequestStopAcknowledge => !call.b.is_number(0),
         _ => false,
     }
 }
@@ -355,7 +326,7 @@ pub fn tailed(event: &Event) -> Option<u32>
 {
     match event {
         Event::Did { call, answer, .. } => where_so(
-            same_call_kind(call.kind, CallKind::WdfRequestForwardToIoQueue) && is_success(*answer),
+            same_call_kind(call.kind, CallKind::WdfRequestForwardToIoQueue) && answer.is_success(),
             argument_object(call.a),
         ),
         Event::Posted { post, answer, .. } => where_so(is_there(brought_to(post)), id_in(*answer)),
@@ -369,7 +340,7 @@ pub fn acknowledged(event: &Event) -> Option<u32>
 {
     match event {
         Event::Did { call, .. } => where_so(
-            same_call_kind(call.kind, CallKind::WdfRequestStopAcknowledge) && is_number(call.b, 0),
+            same_call_kind(call.kind, CallKind::WdfRequestStopAcknowledge) && call.b.is_number(0),
             argument_object(call.a),
         ),
         _ => None,
@@ -380,8 +351,8 @@ fn is_undoing(call: &Call, answer: Value) -> bool
     ensures { result ≡ told.is_undoing call.now answer }
 {
     match call.kind {
-        CallKind::WdfRequestUnmarkCancelable => is_success(answer),
-        CallKind::WdfRequestSend => is_one(answer),
+        CallKind::WdfRequestUnmarkCancelable => answer.is_success(),
+        CallKind::WdfRequestSend => answer.is_one(),
         _ => is_giving_up(call, answer),
     }
 }

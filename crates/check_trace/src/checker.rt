@@ -1,5 +1,5 @@
 //! The checker: the first law that is broken.
-ghost use Rattle.std.specs.Prelude.{◌≡◌, ◌↔◌, ◌<◌, length, slice_get, IfOk, IsNone, Some};
+ghost use Rattle.std.specs.Prelude.{◌≡◌, ◌↔◌, ◌<◌, IfOk, IsNone, Some};
 ghost use Rattle.wdf_laws.specs.First as first;
 ghost use Rattle.wdf_laws.specs.First.{IsFirstBroken};
 ghost use Rattle.check_past.specs.Past.{before};
@@ -8,7 +8,7 @@ ghost use Rattle.law_trace_all.specs.Kept.{KeepsLaws};
 use crate::laws::{keeps_cancels, keeps_cleanups, keeps_completions, keeps_ends, keeps_scopes};
 use crate::order::keeps_order;
 use crate::power::{keeps_interrupts, keeps_queues, keeps_requests};
-use check_past::{Frames, Past};
+use check_past::{Frames, Past, event_at};
 use std::alloc::Global;
 use wdf_base::{Event, Memory, Plan};
 
@@ -37,13 +37,6 @@ fn broken_by(past: &Past, frames: &Frames, event: &Event) -> Option<u8>
     } else {
         None
     }
-}
-
-fn event_at(events: &[Event], k: usize) -> &Event
-    requires { k < length events.now }
-    ensures { slice_get events.now k ≡ Some result.now }
-{
-    &events[k]
 }
 
 /// The first law that is broken, with its place.

@@ -19,7 +19,7 @@ use Rattle.wdf_base.specs.declared.call.CallKind.TheVariants as call
 use Rattle.wdf_base.specs.Same.{same_value}
 use Rattle.wdf_model.specs.Plans.{device_of_agent, is_app, target_of_agent}
 use Rattle.wdf_model.specs.State.{object_in}
-use Rattle.wdf_model.specs.rules.Faults.{arg_is}
+use Rattle.wdf_base.specs.Values.{arg_is}
 use Rattle.wdf_model.specs.rules.Ready.{IsRunOf, state_after}
 use Rattle.wdf_model.specs.agents.App as app
 use Rattle.wdf_model.specs.agents.LowerTarget.{LowerTarget, handle_in_arg, stop_called, target_after, target_called, target_posted, told, told_all, told_if_any, with_sent, without_request}

@@ -37,7 +37,8 @@ use Rattle.wdf_model.specs.parts.Requests.{place_of}
 use Rattle.wdf_model.specs.parts.Tree.{kind_of, life_of, may_clean}
 use Rattle.wdf_model.specs.State.{State, nothing_at, object_in}
 use Rattle.wdf_model.specs.rules.Deeds.{do_deed, do_deeds}
-use Rattle.wdf_model.specs.rules.Faults.{View, arg_is, is_request_kind, is_stale, is_wrong_kind}
+use Rattle.wdf_model.specs.rules.Faults.{View, is_request_kind, is_stale, is_wrong_kind}
+use Rattle.wdf_base.specs.Values.{arg_is}
 use Rattle.wdf_model.specs.rules.Ready.{IsRunOf, ready, state_after}
 use Rattle.wdf_model.specs.rules.Starts.{clean_ready, is_finished, is_unused}
 use Rattle.wdf_model.specs.rules.Steps.{after, deeds, may, view_of}

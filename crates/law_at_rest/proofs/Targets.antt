@@ -33,7 +33,7 @@ use Rattle.wdf_model.specs.parts.Targets.{is_at_target, is_undone, is_undone_sen
 use Rattle.wdf_model.specs.parts.Targets as targets
 use Rattle.wdf_model.specs.State.{State, is_proper, object_in}
 use Rattle.wdf_model.specs.rules.Deeds.{told as heard}
-use Rattle.wdf_model.specs.rules.Faults.{arg_is}
+use Rattle.wdf_base.specs.Values.{arg_is}
 use Rattle.wdf_model.specs.rules.Posts.{due_of, may_finish, post_answer, post_fits}
 use Rattle.wdf_model.specs.rules.Ready.{IsRunOf, ready, state_after}
 use Rattle.wdf_model.specs.rules.Steps.{after, deeds, may}

@@ -14,7 +14,7 @@ use Rattle.wdf_model.specs.declared.enums.Mode.TheVariants as mode
 use Rattle.wdf_model.specs.Tables.{entry, first_of_list}
 use Rattle.wdf_model.specs.Plans.{declared_ids, device_of, managed_queues, queues_of}
 use Rattle.wdf_model.specs.parts.Control as control
-use Rattle.wdf_model.specs.parts.Pnp.{Pnp, Sequence, is_running_step, is_success, left_after, left_after_failure, next_step, no_sequence, opening_pnp, opening_sequence, sequence_of, steps_for, taken_step, with_sequence, with_step}
+use Rattle.wdf_model.specs.parts.Pnp.{Pnp, Sequence, is_running_step, left_after, left_after_failure, next_step, no_sequence, opening_pnp, opening_sequence, sequence_of, steps_for, taken_step, with_sequence, with_step}
 use Rattle.wdf_model.specs.parts.Pnp as pnp
 use Rattle.wdf_model.specs.parts.Queues.{waiting_in}
 use Rattle.wdf_model.specs.parts.Requests as requests
@@ -32,6 +32,7 @@ use Rattle.law_trace_settled.proofs.Along.{Way, asked, failed, may_begin, may_pa
 use Rattle.law_trace_settled.proofs.Along as along
 use Rattle.law_trace_settled.proofs.Laws.{listed_by}
 use Rattle.law_machine_counts.proofs.Arrived.{arrived_pnp}
+use Rattle.wdf_base.specs.Values.{is_success}
 
 -- of a device's steps left, and the one that runs
 pub record OnWay (q : Sequence) : Type 0 where

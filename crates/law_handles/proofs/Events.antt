@@ -54,7 +54,7 @@ use Rattle.wdf_model.specs.parts.Tree.{Tree, cell_of, gone, is_full, life_of, ma
 use Rattle.wdf_model.specs.parts.Tree as tree
 use Rattle.wdf_model.specs.State.{State, declared_in, handle_in, held_at, is_held_from, is_proper, is_with_driver, object_in, queue_delivers}
 use Rattle.wdf_model.specs.rules.Calls.{Outcome, class_in, create_outcome, creation, forward_outcome, forwards_nowhere, is_met_then, mark_outcome, may_send, new_handle, number, number_in, origin_or_none, outcome, refused, requeue_outcome, retrieve_front, retrieve_outcome, second_deeds}
-use Rattle.wdf_model.specs.rules.Faults.{arg_is}
+use Rattle.wdf_base.specs.Values.{arg_is}
 use Rattle.wdf_model.specs.rules.Script.{intent_of}
 use Rattle.wdf_model.specs.rules.Starts.{life_fits, may_start, new_frame, next_number, rank_ready_for, start_effect, take_if_any}
 use Rattle.wdf_model.specs.rules.Steps.{answered, by_top, deeds, did_deeds, goes_on, is_cpu, may, spending, stepped, waiting, waiting_deeds, woke_deeds}

@@ -22,7 +22,7 @@ use Rattle.wdf_base.specs.Lives.{is_gone}
 use Rattle.wdf_model.specs.declared.enums.Phase.{Phase}
 use Rattle.wdf_model.specs.declared.enums.Phase.TheVariants.{Working, Sleeping}
 use Rattle.wdf_model.specs.parts.Tree.{life_of, nearest_device}
-use Rattle.wdf_model.specs.parts.Pnp.{Sequence, busy, is_running_step, is_success, left_after, left_after_failure, no_sequence, sequence_of, steps_for, steps_left, taken_step}
+use Rattle.wdf_model.specs.parts.Pnp.{Sequence, busy, is_running_step, left_after, left_after_failure, no_sequence, sequence_of, steps_for, steps_left, taken_step}
 use Rattle.wdf_model.specs.parts.Pnp as pnp
 use Rattle.wdf_model.specs.State.{State}
 use Rattle.wdf_model.specs.agents.IdlePolicy.{ends_asleep, ends_awake}
@@ -30,9 +30,8 @@ use Rattle.wdf_model.proofs.Counts.{equal, not_equal, one_or_two}
 use Rattle.wdf_model.proofs.Maps.{entry_put_other, entry_put_same}
 use Rattle.wdf_model.proofs.Tests.{either_false}
 use Rattle.wdf_laws.specs.Events.{is_id, where_so}
-use Rattle.wdf_laws.specs.Events.{is_success as laws_success}
 use Rattle.law_machine_base.specs.Agreement.{is_sequence}
-use Rattle.law_trace_power.proofs.Happens.{not_running, success_same, taken_pass, taken_run}
+use Rattle.law_trace_power.proofs.Happens.{not_running, taken_pass, taken_run}
 use Rattle.law_trace_turns.specs.Turned.{Asked, Begun, Ended, Passed, Still, Turned, is_asking, is_turning}
 use Rattle.wdf_model.specs.agents.StackManager.{is_working}
 use Rattle.law_idle.specs.Idling.{Rest, asleep_step, awake_step, refuses_removal, refuses_stop, rest_after}
@@ -41,6 +40,7 @@ use Rattle.law_idle.proofs.Lists.{end_asks_not, end_tidy, lists_tidy, rest_is_la
 use Rattle.law_machine_lives.proofs.Lists.{none_left}
 use Rattle.law_trace_power.specs.UnderWay.{step_if_any, under_way}
 use Rattle.law_trace_power.proofs.Sequences.{refused_query}
+use Rattle.wdf_base.specs.Values.{is_success}
 
 -- ---- truth values
 
@@ -132,21 +132,21 @@ record IsRefusal (d : ℕ) (c : Callback) (o : Handle) (v : Value) : Type 0 wher
   fails : is_success v ≡ false
   on : o.id.0 ≡ d
 
-told : (d : ℕ) (o : Handle) (v : Value) (b : Bool) → laws_success v ≡ b → is_id d (where_so (not b) (Some o.id.0)) ≡ true → (is_success v ≡ false) × (o.id.0 ≡ d)
+told : (d : ℕ) (o : Handle) (v : Value) (b : Bool) → is_success v ≡ b → is_id d (where_so (not b) (Some o.id.0)) ≡ true → (is_success v ≡ false) × (o.id.0 ≡ d)
 told d o v true e h = absurd (let z : ⊥ = cc in z)
-told d o v false e h = (success_same v ∙ e, eqb-true o.id.0 d h)
+told d o v false e h = (e, eqb-true o.id.0 d h)
 
 or_none : (b : Bool) → (b || false) ≡ true → b ≡ true
 or_none true h = refl
 or_none false h = h
 
 removal_by : (d : ℕ) (cpu : Cpu) (c : Callback) (o : Handle) (v : Value) → refuses_removal d (event.End cpu c o v) ≡ true → IsRefusal d c o v
-removal_by d cpu callback.EvtDeviceQueryRemove o v h = let t = told d o v (laws_success v) refl h in record { query = refl; fails = t.0; on = t.1 }
+removal_by d cpu callback.EvtDeviceQueryRemove o v h = let t = told d o v (is_success v) refl h in record { query = refl; fails = t.0; on = t.1 }
 removal_by d cpu _ o v h = absurd (let z : ⊥ = cc in z)
 
 refusal_by : (d : ℕ) (cpu : Cpu) (c : Callback) (o : Handle) (v : Value) → refused d (event.End cpu c o v) ≡ true → IsRefusal d c o v
-refusal_by d cpu callback.EvtDeviceQueryStop o v h = let t = told d o v (laws_success v) refl (or_none (is_id d (where_so (not (laws_success v)) (Some o.id.0))) h) in record { query = refl; fails = t.0; on = t.1 }
-refusal_by d cpu callback.EvtDeviceQueryRemove o v h = let t = told d o v (laws_success v) refl h in record { query = refl; fails = t.0; on = t.1 }
+refusal_by d cpu callback.EvtDeviceQueryStop o v h = let t = told d o v (is_success v) refl (or_none (is_id d (where_so (not (is_success v)) (Some o.id.0))) h) in record { query = refl; fails = t.0; on = t.1 }
+refusal_by d cpu callback.EvtDeviceQueryRemove o v h = let t = told d o v (is_success v) refl h in record { query = refl; fails = t.0; on = t.1 }
 refusal_by d cpu _ o v h = absurd (let z : ⊥ = cc in z)
 
 failure_asks_not : (q : Sequence) (c : Callback) → has_query q.left ≡ false → has_query (left_after_failure q c) ≡ false

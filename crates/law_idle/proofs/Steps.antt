@@ -16,12 +16,10 @@ use Rattle.wdf_base.specs.declared.event.Post.{Post}
 use Rattle.wdf_base.specs.declared.event.Post.TheVariants as post
 use Rattle.wdf_base.specs.declared.event.Event.{Event}
 use Rattle.wdf_base.specs.declared.event.Event.TheVariants as event
-use Rattle.wdf_model.specs.parts.Pnp.{is_success}
 use Rattle.wdf_model.specs.agents.IdlePolicy.{IdleDevice, asleep_after, awake_after, ends_asleep, ends_awake, hold_after, is_of, was_asleep_after, was_awake_after}
 use Rattle.wdf_laws.specs.Events.{is_id, where_so}
-use Rattle.wdf_laws.specs.Events.{is_success as laws_success}
 use Rattle.law_idle.specs.Idling.{Rest, asleep_step, awake_step, hold_step, is_ended}
-use Rattle.law_trace_power.proofs.Happens.{success_same}
+use Rattle.wdf_base.specs.Values.{is_success}
 
 -- ---- truth values
 
@@ -116,14 +114,14 @@ module _ (x : IdleDevice) where
 
   awake_end : (cpu : Cpu) (c : Callback) (o : Handle) (v : Value) → awake_after x (event.End cpu c o v) ≡ (awake_step d awake_now (event.End cpu c o v)).now
   awake_end cpu callback.EvtDeviceQueryStop o v =
-      rw (success_same v, shown d o.id.0 (not (laws_success v))) (comes_back x.awake x.was_awake (is_of x o) (laws_success v))
+      rw (shown d o.id.0 (not (is_success v))) (comes_back x.awake x.was_awake (is_of x o) (is_success v))
   awake_end cpu callback.EvtDeviceQueryRemove o v =
-      rw (success_same v, shown d o.id.0 (not (laws_success v))) (comes_back_too x.awake x.was_awake (is_of x o) (laws_success v))
+      rw (shown d o.id.0 (not (is_success v))) (comes_back_too x.awake x.was_awake (is_of x o) (is_success v))
   awake_end cpu _ o v = no_way x.awake x.was_awake (is_of x o && not (is_success v))
 
   asleep_end : (cpu : Cpu) (c : Callback) (o : Handle) (v : Value) → asleep_after x (event.End cpu c o v) ≡ (asleep_step d asleep_now (event.End cpu c o v)).now
   asleep_end cpu callback.EvtDeviceQueryRemove o v =
-      rw (success_same v, shown d o.id.0 (not (laws_success v))) (comes_back_too x.asleep x.was_asleep (is_of x o) (laws_success v))
+      rw (shown d o.id.0 (not (is_success v))) (comes_back_too x.asleep x.was_asleep (is_of x o) (is_success v))
   asleep_end cpu _ o v = no_way x.asleep x.was_asleep (is_of x o && not (is_success v))
 
   -- ---- any event

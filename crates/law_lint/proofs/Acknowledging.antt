@@ -26,7 +26,7 @@ use Rattle.wdf_model.specs.State.{State, object_in}
 use Rattle.wdf_model.specs.declared.deed.Deed.TheVariants.{Acknowledge, GoOn}
 use Rattle.wdf_model.specs.rules.Calls.{origin_or_none, outcome, requeue_outcome, second_deeds, success}
 use Rattle.wdf_model.specs.rules.Deeds.{do_deeds}
-use Rattle.wdf_model.specs.rules.Faults.{arg_is}
+use Rattle.wdf_base.specs.Values.{arg_is}
 use Rattle.wdf_model.specs.rules.Script.{intent_of, statement_at}
 use Rattle.wdf_model.specs.rules.Steps.{after, answered, deeds, did_deeds, may}
 use Rattle.wdf_model.proofs.FrameCounts.{on}

@@ -24,7 +24,8 @@ use Rattle.wdf_base.specs.Places.{is_due, is_marked, is_owned}
 use Rattle.wdf_model.specs.parts.Requests.{mark_of, place_of, request_of}
 use Rattle.wdf_model.specs.parts.Targets.{is_forgotten}
 use Rattle.wdf_model.specs.State.{State, held_at, object_in}
-use Rattle.wdf_model.specs.rules.Faults.{View, arg_is, call_faults, gives_up, is_not_owned}
+use Rattle.wdf_model.specs.rules.Faults.{View, call_faults, gives_up, is_not_owned}
+use Rattle.wdf_base.specs.Values.{arg_is}
 use Rattle.wdf_model.specs.rules.Script.{arg_of, node_value, request_value, value_of, value_to}
 use Rattle.wdf_model.specs.rules.Steps.{view_of}
 use Rattle.wdf_model.proofs.Tests.{either_false, right_fails}

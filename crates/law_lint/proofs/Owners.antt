@@ -33,7 +33,7 @@ use Rattle.wdf_model.specs.declared.deed.Deed.{Deed}
 use Rattle.wdf_model.specs.declared.deed.Deed.TheVariants.{Forward, GiveBack, GoOn, MarkRequest, Requeue, SendRequest}
 use Rattle.wdf_model.specs.rules.Calls.{Outcome, forwards_nowhere, may_send, number, origin_or_none, outcome, refused, second_deeds, success}
 use Rattle.wdf_model.specs.rules.Deeds.{do_deeds}
-use Rattle.wdf_model.specs.rules.Faults.{arg_is}
+use Rattle.wdf_base.specs.Values.{arg_is}
 use Rattle.wdf_model.specs.rules.Script.{arg_of, statement_at}
 use Rattle.wdf_model.specs.rules.Steps.{after, answered, deeds, did_deeds, may}
 use Rattle.law_machine_base.specs.Fits.{all_fit}

@@ -23,7 +23,8 @@ use Rattle.wdf_model.specs.parts.Power.{acknowledged}
 use Rattle.wdf_model.specs.parts.Requests.{origin_of, place_of}
 use Rattle.wdf_model.specs.parts.Targets.{is_forgotten}
 use Rattle.wdf_model.specs.State.{State, is_with_driver, object_in}
-use Rattle.wdf_model.specs.rules.Faults.{View, arg_is, call_faults, holds_of, is_handle_of, is_script_fault, is_stop_of}
+use Rattle.wdf_model.specs.rules.Faults.{View, call_faults, holds_of, is_handle_of, is_script_fault, is_stop_of}
+use Rattle.wdf_base.specs.Values.{arg_is}
 use Rattle.wdf_model.specs.rules.Script.{intent_of}
 use Rattle.wdf_model.specs.rules.Steps.{view_of}
 use Rattle.wdf_model.proofs.Counts.{equal}

@@ -42,12 +42,12 @@ use Rattle.wdf_model.specs.parts.Requests.{arrival_of, is_cancelled, mark_answer
 use Rattle.wdf_model.specs.State.{State, declared_in, object_in, queue_delivers}
 use Rattle.wdf_model.specs.declared.deed.Deed.{Deed}
 use Rattle.wdf_model.specs.declared.deed.Deed.TheVariants.{Acknowledge, EnqueueDpc, EnqueueWork, Forward, GiveBack, GoOn, MarkRequest, PopFrame, PushFrame, RegisterQueue, Requeue, SendRequest, StartTimer}
-use Rattle.wdf_model.specs.rules.Faults.{arg_is}
+use Rattle.wdf_base.specs.Values.{arg_is}
 use Rattle.wdf_model.specs.rules.Calls.{Outcome, acknowledge_outcome, class_in, create_outcome, creation, forward_outcome, forwards_nowhere, mark_outcome, may_send, new_handle, number, number_in, origin_or_none, outcome, requeue_outcome, retrieve_front, retrieve_outcome, refused, second_deeds, send_outcome, success}
 use Rattle.wdf_model.specs.rules.Starts.{effect, effect_for, end_of_step, new_frame, next_number, release_if_any, stage_effect, start_effect, take_if_any}
 use Rattle.wdf_model.specs.rules.Posts.{cancel_at, cancel_deeds, in_reach, post_deeds}
 use Rattle.wdf_model.specs.rules.Steps.{answered, deeds, did_deeds, goes_on, spending, stepped, waiting, waiting_deeds, woke_deeds}
-use Rattle.law_machine_base.specs.OverRuns.{is_arrival_post}
+use Rattle.wdf_base.specs.Posts.{is_request}
 use Rattle.wdf_model.proofs.Tests.{both, both_left, both_right}
 use Rattle.law_machine_base.proofs.KeptByDeeds.{is_arrival, none_arrives}
 
@@ -181,7 +181,7 @@ cancel_of_none : {A : Type 0} (S : State A) (r : Option ℕ) → none_arrives (c
 cancel_of_none S None = refl
 cancel_of_none S (Some r) = cancel_none (place_of S.requests r) r
 
-post_none : {A : Type 0} (plan : Plan) (S : State A) (agent : ℕ) (p : Post) → is_arrival_post p ≡ false → none_arrives (post_deeds plan S agent p) ≡ true
+post_none : {A : Type 0} (plan : Plan) (S : State A) (agent : ℕ) (p : Post) → is_request p ≡ false → none_arrives (post_deeds plan S agent p) ≡ true
 post_none plan S agent (post.Cancel k) h = cancel_of_none S (option_and_then (in_reach S) (arrival_of S.requests agent k))
 post_none plan S agent (post.Ask a device) h = refl
 post_none plan S agent (post.Act action) h = refl
@@ -190,7 +190,7 @@ post_none plan S agent _ h = absurd (let z : ⊥ = cc in z)
 
 -- an event by which a request may arrive
 abbrev pub is_arrival_event : Event → Bool
-is_arrival_event (event.Posted agent p answer) = is_arrival_post p
+is_arrival_event (event.Posted agent p answer) = is_request p
 is_arrival_event _ = false
 
 by_top_none : {A : Type 0} (S : State A) (ds : ℕ → Frame → List Deed) → ((f : ℕ) (frame : Frame) → none_arrives (ds f frame) ≡ true) → (there : Option ℕ)

@@ -24,7 +24,8 @@ use Rattle.wdf_model.specs.parts.Power.{acknowledged}
 use Rattle.wdf_model.specs.State.{State, is_with_driver, object_in}
 use Rattle.wdf_model.specs.Ids.{cpu_of, object_id}
 use Rattle.wdf_model.specs.declared.deed.Deed.TheVariants.{Acknowledge, EnqueueDpc, EnqueueWork, RegisterQueue, StartTimer}
-use Rattle.wdf_model.specs.rules.Faults.{arg_is, call_faults, is_stop_of}
+use Rattle.wdf_model.specs.rules.Faults.{call_faults, is_stop_of}
+use Rattle.wdf_base.specs.Values.{arg_is}
 use Rattle.wdf_model.specs.rules.Calls.{acknowledge_outcome, class_in, dpc_outcome, isr_dpc_outcome, notify_outcome, number, number_in, origin_or_none, outcome, refused, requeue_outcome, success, timer_outcome, work_outcome}
 use Rattle.wdf_model.specs.rules.Steps.{view_of}
 use Rattle.law_machine_base.specs.Fits.{all_fit, is_given}

@@ -10,10 +10,9 @@ use Rattle.wdf_base.specs.Plan.{declared_of}
 use Rattle.wdf_base.specs.declared.call.CallKind.TheVariants as call
 use Rattle.wdf_base.specs.declared.event.Event.{Event}
 use Rattle.wdf_base.specs.declared.event.Event.TheVariants as event
-use Rattle.wdf_base.specs.declared.event.Post.{Post}
-use Rattle.wdf_base.specs.declared.event.Post.TheVariants as post
 use Rattle.wdf_base.specs.Same.{same_call_kind}
 use Rattle.wdf_base.specs.Places.{is_queued_in, is_sent_to}
+use Rattle.wdf_base.specs.Posts.{is_request}
 use Rattle.wdf_model.specs.Tables.{flag}
 use Rattle.wdf_model.specs.parts.Tree.{kind_of, nearest_device}
 use Rattle.wdf_model.specs.parts.Cpus.{all_frames, frame_of}
@@ -60,13 +59,6 @@ completes r (event.Did cpu c answer) = same_call_kind c.kind call.WdfRequestComp
 completes r (event.Complete request s) = request.id.0 == r
 completes r _ = false
 
--- the posts by which an app makes a request
-abbrev pub is_arrival_post : Post → Bool
-is_arrival_post (post.Read device length) = true
-is_arrival_post (post.Write device length) = true
-is_arrival_post (post.Control device code length) = true
-is_arrival_post _ = false
-
 -- an answer is the handle of request r
 abbrev pub is_answer : ℕ → Option Handle → Bool
 is_answer r None = false
@@ -74,7 +66,7 @@ is_answer r (Some h) = h.id.0 == r
 
 -- event e is the arrival of request r
 abbrev pub arrives : ℕ → Event → Bool
-arrives r (event.Posted agent p answer) = is_arrival_post p && is_answer r answer
+arrives r (event.Posted agent p answer) = is_request p && is_answer r answer
 arrives r _ = false
 
 -- No request is completed twice, and none before it arrives.

@@ -31,7 +31,7 @@ use Rattle.wdf_model.specs.State.{State, object_in, queue_delivers}
 use Rattle.wdf_model.specs.Ids.{cpu_of, object_id}
 use Rattle.wdf_model.specs.declared.deed.Deed.{Deed}
 use Rattle.wdf_model.specs.declared.deed.Deed.TheVariants.{Acknowledge, EnqueueDpc, EnqueueWork, Forward, GiveBack, MarkRequest, RegisterQueue, Requeue, SendRequest, StartTimer}
-use Rattle.wdf_model.specs.rules.Faults.{arg_is}
+use Rattle.wdf_base.specs.Values.{arg_is}
 use Rattle.wdf_model.specs.rules.Calls.{Outcome, acknowledge_outcome, class_in, create_outcome, creation, dpc_outcome, forward_outcome, forwards_nowhere, isr_dpc_outcome, mark_outcome, may_send, new_handle, notify_outcome, number, number_in, origin_or_none, outcome, refused, requeue_outcome, retrieve_front, retrieve_outcome, second_deeds, send_outcome, success, timer_outcome, work_outcome}
 use Rattle.wdf_model.specs.rules.Steps.{view_of}
 use Rattle.law_machine_base.specs.OverRuns.{DeclaredAgree, is_declared_kind}

@@ -28,7 +28,7 @@ use Rattle.wdf_model.specs.parts.Tree.{subtree}
 use Rattle.wdf_model.specs.parts.Queues.{waiting_in}
 use Rattle.wdf_model.specs.parts.Requests as requests
 use Rattle.wdf_model.specs.parts.Control as control
-use Rattle.wdf_model.specs.parts.Pnp.{DeviceSteps, InterruptSteps, Pnp, Sequence, DEVICE_CALLBACKS, device_steps, disable_steps, down_steps, enable_steps, end_steps, flush_steps, hard_steps, interrupt_name, interrupt_steps, is_success, left_after, left_after_failure, next_step, no_sequence, opening_sequence, pass, passed, quiet_steps, run, run_if, self_managed_start, sequence_of, steps_for, steps_off, steps_sleeping, steps_working, tail_steps, taken_step, up_steps, with_sequence, with_step}
+use Rattle.wdf_model.specs.parts.Pnp.{DeviceSteps, InterruptSteps, Pnp, Sequence, DEVICE_CALLBACKS, device_steps, disable_steps, down_steps, enable_steps, end_steps, flush_steps, hard_steps, interrupt_name, interrupt_steps, left_after, left_after_failure, next_step, no_sequence, opening_sequence, pass, passed, quiet_steps, run, run_if, self_managed_start, sequence_of, steps_for, steps_off, steps_sleeping, steps_working, tail_steps, taken_step, up_steps, with_sequence, with_step}
 use Rattle.wdf_model.specs.parts.Pnp as pnp
 use Rattle.wdf_model.specs.State.{State}
 use Rattle.wdf_model.specs.declared.deed.Deed.{Deed}
@@ -46,6 +46,7 @@ use Rattle.wdf_base.specs.Stages.{is_for_interrupt}
 use Rattle.law_machine_once.specs.Owned.{IsStepOf, StepsOwned}
 use Rattle.law_machine_once.proofs.OnceEach.{each_of_all, each_image}
 use Rattle.law_machine_counts.proofs.Arrived.{arrived_pnp}
+use Rattle.wdf_base.specs.Values.{is_success}
 
 -- ---- what the lists of steps are made of
 

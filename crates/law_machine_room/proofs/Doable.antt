@@ -22,7 +22,8 @@ use Rattle.wdf_model.specs.rules.Steps.{is_cpu}
 use Rattle.law_machine_base.specs.OverRuns.{DeclaredAgree, FramesAgree, PlacesAgree}
 use Rattle.wdf_model.proofs.Counts.{count_no, count_yes, equal}
 use Rattle.wdf_model.proofs.FrameCounts.{listed, none_or_some, popped}
-use Rattle.law_machine_room.specs.Kept.{RoomKept, table_size}
+use Rattle.law_machine_room.specs.Kept.{RoomKept}
+use Rattle.wdf_model.specs.rules.Groups.{declared_end}
 use Rattle.wdf_model.specs.rules.Room.{AGENTS, AreDoable, IsRequest, MayGiveUp}
 
 -- what is so of a state before an event
@@ -90,7 +91,7 @@ module _ {A : Type 0} {plan : Plan} {S : State A} (k : Fine plan S) where
       let before = k.within in
       omega arith
 
-  pub table_small : table_size plan ≤ 4097
+  pub table_small : declared_end plan ≤ 4097
   table_small =
       let most : plan.objects ≤ 4096 = upper 1 4096 plan.objects k.resolved.objects in
       let counted : length plan.declared ≤ plan.objects = at_most plan.objects (length plan.declared) k.resolved.counted in
@@ -106,7 +107,7 @@ module _ {A : Type 0} {plan : Plan} {S : State A} (k : Fine plan S) where
   pub room_of : (o : ℕ) → o < length S.tree.nodes → o < OBJECTS
   room_of o there = let few = objects_few in omega arith
 
-  pub declared_room : (o : ℕ) → o < table_size plan → o < OBJECTS
+  pub declared_room : (o : ℕ) → o < declared_end plan → o < OBJECTS
   declared_room o there = let small = table_small in let few = few_events in omega arith
 
   pub no_object_room : 0 < OBJECTS
@@ -158,11 +159,11 @@ module _ {A : Type 0} {plan : Plan} {S : State A} (k : Fine plan S) where
   pub request_here : (r : ℕ) → is_done (place_of S.requests r) ≡ false → IsRequest S r
   request_here r h = request_room r (inside no_request (λ q. not (is_done q.place)) S.requests.all r refl (ap not h))
 
-  origin_by : (o : Option ℕ) → ((q : ℕ) → o ≡ Some q → q < table_size plan) → unwrap_or o 0 < table_size plan
+  origin_by : (o : Option ℕ) → ((q : ℕ) → o ≡ Some q → q < declared_end plan) → unwrap_or o 0 < declared_end plan
   origin_by None h = omega arith
   origin_by (Some q) h = h q refl
 
-  pub origin_there : (r : ℕ) → unwrap_or (origin_of S.requests r) 0 < table_size plan
+  pub origin_there : (r : ℕ) → unwrap_or (origin_of S.requests r) 0 < declared_end plan
   origin_there r = origin_by (origin_of S.requests r) (k.room.names.origins r)
 
   pub may_give_up : (r : ℕ) → is_done (place_of S.requests r) ≡ false → MayGiveUp S r

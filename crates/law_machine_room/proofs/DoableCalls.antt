@@ -34,7 +34,7 @@ use Rattle.law_machine_base.proofs.Fits.{first_kind, wrong_kind_of_first}
 use Rattle.law_machine_base.proofs.FitsOfCalls.{Clean}
 use Rattle.law_machine_base.proofs.FitsOfEvents.{by_its_top}
 use Rattle.law_machine_counts.proofs.StillDeeds.{none_behind, outcome_none, second_none}
-use Rattle.law_machine_room.specs.Kept.{table_size}
+use Rattle.wdf_model.specs.rules.Groups.{declared_end}
 use Rattle.wdf_model.specs.rules.Room.{AreDoable, IsThere}
 use Rattle.law_machine_room.proofs.DoableDeclared.{kind_there}
 use Rattle.law_machine_room.proofs.Doable.{Fine, cpu_there, doable_after, levels_few, locks_few, may_give_up, origin_there, references_few, top_few, top_there}
@@ -79,7 +79,7 @@ module _ {A : Type 0} {plan : Plan} {S : State A} (k : Fine plan S) where
       not_gone_there k (object_in c.a) (object_stays (view_of plan S cpu f) (signature_of c.kind).cleaned c.a stale wrong)
 
   -- the first argument is a declared object of this kind
-  first_declared : (cpu f : ℕ) (c : Call) (x : Kind) → Clean plan S cpu f c → (signature_of c.kind).a ≡ sort.ObjectOf x → is_declared_kind x ≡ true → object_in c.a < table_size plan
+  first_declared : (cpu f : ℕ) (c : Call) (x : Kind) → Clean plan S cpu f c → (signature_of c.kind).a ≡ sort.ObjectOf x → is_declared_kind x ≡ true → object_in c.a < declared_end plan
   first_declared cpu f c x h e d =
       let wrong : is_wrong_kind (view_of plan S cpu f) (sort.ObjectOf x) c.a ≡ false = rw e at (wrong_kind_of_first (view_of plan S cpu f) c (h fault.WrongKind)) in
       kind_there k (object_in c.a) x d (first_kind (view_of plan S cpu f) x c.a wrong)

@@ -20,16 +20,16 @@ use Rattle.wdf_model.proofs.Maps.{entry_before, entry_last}
 use Rattle.wdf_model.proofs.Sames.{kind_decides}
 use Rattle.wdf_model.proofs.Tests.{both_left}
 use Rattle.wdf_model.proofs.Counts.{one_or_two}
-use Rattle.law_machine_room.specs.Kept.{table_size}
+use Rattle.wdf_model.specs.rules.Groups.{declared_end}
 use Rattle.law_machine_room.proofs.Doable.{Fine}
 
 -- ---- what is declared
 
 -- a declared object is there
-pub declared_there : (plan : Plan) (o : ℕ) → is_some (declared_of plan o) ≡ true → o < table_size plan
+pub declared_there : (plan : Plan) (o : ℕ) → is_some (declared_of plan o) ≡ true → o < declared_end plan
 declared_there plan zero h = omega arith
 declared_there plan (suc o) h = found_there (slice_get plan.declared o) refl h where
-  found_there : (d : Option Declared) → slice_get plan.declared o ≡ d → is_some d ≡ true → suc o < table_size plan
+  found_there : (d : Option Declared) → slice_get plan.declared o ≡ d → is_some d ≡ true → suc o < declared_end plan
   found_there None e h = absurd (let z : ⊥ = cc in z)
   found_there (Some d) e h = let within = slice_get_within plan.declared o d e in omega arith
 
@@ -37,7 +37,7 @@ handle_kind : (d : Option Declared) (k : Kind) → same_option same_kind (option
 handle_kind None k h = h
 handle_kind (Some d) k h = refl
 
-pub handle_there : (plan : Plan) (k : Kind) (h : Handle) → is_handle plan k h ≡ true → h.id.0 < table_size plan
+pub handle_there : (plan : Plan) (k : Kind) (h : Handle) → is_handle plan k h ≡ true → h.id.0 < declared_end plan
 handle_there plan k h e = let kind_is : is_kind plan k h.id.0 ≡ true = search both_left in declared_there plan h.id.0 (handle_kind (declared_of plan h.id.0) k kind_is)
 
 some_kind : (d : Option Declared) (x : Kind) → option_and_then declared_kind d ≡ Some x → is_some d ≡ true
@@ -68,17 +68,17 @@ driver_by : (ds : List Declared) → objects_in_order ds ≡ true → 1 < suc (l
 driver_by [] h = absurd (let z : ⊥ = cc in z)
 driver_by (d ∷ ds) h = omega arith
 
-driver_there : (plan : Plan) → IsResolved plan → 1 < table_size plan
+driver_there : (plan : Plan) → IsResolved plan → 1 < declared_end plan
 driver_there plan r = driver_by plan.declared r.in_order
 
 module _ {A : Type 0} {plan : Plan} {S : State A} (k : Fine plan S) where
-  pub kind_there : (o : ℕ) (x : Kind) → is_declared_kind x ≡ true → same_kind (kind_of S.tree o) x ≡ true → o < table_size plan
+  pub kind_there : (o : ℕ) (x : Kind) → is_declared_kind x ≡ true → same_kind (kind_of S.tree o) x ≡ true → o < declared_end plan
   kind_there o x d h =
       let it : kind_of S.tree o ≡ x = (kind_decides (kind_of S.tree o) x).0 h in
       declared_there plan o (some_kind (declared_of plan o) (kind_of S.tree o) (k.declared.declared o (ap is_declared_kind it ∙ d)))
 
   -- the nearest device of an object is a declared device, or the driver object
-  pub nearest_there : (o : ℕ) → nearest_device S.tree o < table_size plan
+  pub nearest_there : (o : ℕ) → nearest_device S.tree o < declared_end plan
   nearest_there o =
-      near_all (table_size plan) [] S.tree.nodes (driver_there plan k.resolved) (λ i. driver_there plan k.resolved)
+      near_all (declared_end plan) [] S.tree.nodes (driver_there plan k.resolved) (λ i. driver_there plan k.resolved)
       (λ i d. let there = kind_there i kind.Device refl d in omega arith) o

@@ -25,11 +25,11 @@ use Rattle.wdf_model.specs.parts.Targets.{takes_more}
 use Rattle.wdf_model.specs.State.{State, is_with_driver, queue_delivers}
 use Rattle.wdf_model.specs.Ids.{cpu_of, object_id}
 use Rattle.wdf_model.specs.declared.deed.Deed.TheVariants.{Acknowledge, EnqueueDpc, EnqueueWork, Forward, GiveBack, MarkRequest, RegisterQueue, Requeue, SendRequest, StartTimer}
-use Rattle.wdf_model.specs.rules.Faults.{arg_is}
+use Rattle.wdf_base.specs.Values.{arg_is}
 use Rattle.wdf_model.specs.rules.Calls.{acknowledge_outcome, create_outcome, creation, dpc_outcome, forward_outcome, forwards_nowhere, isr_dpc_outcome, mark_outcome, may_send, new_handle, notify_outcome, number, origin_or_none, refused, requeue_outcome, retrieve_front, retrieve_outcome, send_outcome, success, timer_outcome, work_outcome}
 use Rattle.wdf_model.proofs.Tests.{both_left, both_right, either_false, itself, not_false, not_true}
 use Rattle.wdf_model.proofs.Counts.{found_nowhere}
-use Rattle.law_machine_room.specs.Kept.{table_size}
+use Rattle.wdf_model.specs.rules.Groups.{declared_end}
 use Rattle.wdf_model.specs.rules.Room.{AreDoable, HasRoomForObject, IsQueue, IsRequest, IsThere, MayEnter, MayPurge}
 use Rattle.law_machine_room.proofs.Doable.{Fine, apart, arrived_few, clock_small, declared_room, either_doable, inside, may_give_up, objects_few, origin_there, request_here, request_room, room_of}
 use Rattle.law_machine_room.proofs.DoableStarts.{held_request, present_doable, waiting_request}
@@ -54,13 +54,13 @@ module _ {A : Type 0} {plan : Plan} {S : State A} (k : Fine plan S) where
   pub not_gone_there : (o : ℕ) → is_gone (life_of S.tree o) ≡ false → IsThere S o
   not_gone_there o h = inside gone (λ n. not (is_gone n.life)) S.tree.nodes o refl (ap not h)
 
-  pub queue_there : (q : ℕ) → q < table_size plan → IsQueue S q
+  pub queue_there : (q : ℕ) → q < declared_end plan → IsQueue S q
   queue_there q h =
       let controls = k.room.sizes.controls in
       let dispatch = k.room.sizes.dispatch in
       record { dispatch = omega arith; control = omega arith }
 
-  pub target_there : (t : ℕ) → t < table_size plan → t < length S.targets.targets
+  pub target_there : (t : ℕ) → t < declared_end plan → t < length S.targets.targets
   target_there t h = let size = k.room.sizes.targets.many in omega arith
 
   -- ---- objects are made
@@ -86,7 +86,7 @@ module _ {A : Type 0} {plan : Plan} {S : State A} (k : Fine plan S) where
   owned_may_enter : (q r : ℕ) → is_owned (place_of S.requests r) ≡ true → IsQueue S q → MayEnter S q r
   owned_may_enter q r h queue = record { queue = queue; apart = apart k r (λ p. owned_waits_nowhere (place_of S.requests r) p h) }
 
-  pub requeue_doable : (r q : ℕ) → is_owned (place_of S.requests r) ≡ true → q < table_size plan → AreDoable plan (requeue_outcome S r q).deeds S
+  pub requeue_doable : (r q : ℕ) → is_owned (place_of S.requests r) ≡ true → q < declared_end plan → AreDoable plan (requeue_outcome S r q).deeds S
   requeue_doable r q h there =
       let gives = may_give_up k r (owned_undone (place_of S.requests r) h) in
       either_doable plan S (is_cancelled S.requests r || is_purged (mode_of S.control q)) (success (GiveBack (object_id r) (object_id q) ∷ [])) (success (Requeue (object_id r) (object_id q) ∷ []))
@@ -134,7 +134,7 @@ module _ {A : Type 0} {plan : Plan} {S : State A} (k : Fine plan S) where
 
   -- ---- queues
 
-  pub mode_there : (q : ℕ) → q < table_size plan → q < length S.control.controls
+  pub mode_there : (q : ℕ) → q < declared_end plan → q < length S.control.controls
   mode_there q h = let size = k.room.sizes.controls in omega arith
 
   -- a queue that is there may be purged: each request waits in it once
@@ -157,14 +157,14 @@ module _ {A : Type 0} {plan : Plan} {S : State A} (k : Fine plan S) where
       (λ _. tt)
       (λ _. front_doable q (front S.queues q) refl))
 
-  pub notify_doable : (q : ℕ) (x : Arg) → q < table_size plan → AreDoable plan (notify_outcome plan q x).deeds S
+  pub notify_doable : (q : ℕ) (x : Arg) → q < declared_end plan → AreDoable plan (notify_outcome plan q x).deeds S
   notify_doable q x there =
       either_doable plan S (is_manual_queue plan q && declares plan callback.EvtIoQueueState q) (success (RegisterQueue (object_id q) (not (arg_is x 0)) ∷ [])) (refused status.InvalidDeviceRequest)
       (λ _. (mode_there q there, tt)) (λ _. tt)
 
   -- ---- deferred work
 
-  pub isr_doable : (cpu i : ℕ) → cpu < plan.cpus → i < table_size plan → AreDoable plan (isr_dpc_outcome plan S cpu i).deeds S
+  pub isr_doable : (cpu i : ℕ) → cpu < plan.cpus → i < declared_end plan → AreDoable plan (isr_dpc_outcome plan S cpu i).deeds S
   isr_doable cpu i here there =
       let size = k.room.sizes.dpcs in
       either_doable plan S (is_enabled S.interrupts i && declares plan callback.EvtInterruptDpc i && not (is_dpc_queued S.dpcs i)) (number 1 (EnqueueDpc (cpu_of cpu) (object_id i) ∷ [])) (number 0 [])

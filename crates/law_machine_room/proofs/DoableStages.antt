@@ -25,7 +25,8 @@ use Rattle.wdf_model.specs.rules.Starts.{clean_ready, destroy_ready, handle_id, 
 use Rattle.wdf_model.specs.rules.Steps.{is_closing_with}
 use Rattle.wdf_model.proofs.Sames.{handle_same}
 use Rattle.wdf_model.proofs.Tests.{both_left, both_right}
-use Rattle.law_machine_room.specs.Kept.{IsHandleThere, IsStepThere, table_size}
+use Rattle.law_machine_room.specs.Kept.{IsHandleThere, IsStepThere}
+use Rattle.wdf_model.specs.rules.Groups.{declared_end}
 use Rattle.wdf_model.specs.rules.Room.{AreDoable}
 use Rattle.law_machine_room.proofs.Doable.{Fine, clock_small, declared_room, may_give_up, no_object_room}
 use Rattle.law_machine_room.proofs.DoableStarts.{step_device}
@@ -36,7 +37,7 @@ named_handle : (plan : Plan) (i j : Option Handle) → IsHandleThere plan i → 
 named_handle plan None None t h = tt
 named_handle plan None (Some b) t h = absurd (let z : ⊥ = cc in z)
 named_handle plan (Some a) None t h = tt
-named_handle plan (Some a) (Some b) t h = subst (λ (x : Handle). x.id.0 < table_size plan) (handle_same a b h) t
+named_handle plan (Some a) (Some b) t h = subst (λ (x : Handle). x.id.0 < declared_end plan) (handle_same a b h) t
 
 named_step : (plan : Plan) (x : Step) (s : Stage) (i : Option Handle) → IsStepThere plan x → same_step x (step.Pass s i) ≡ true → IsHandleThere plan i
 named_step plan (step.Run c j) s i t h = absurd (let z : ⊥ = cc in z)
@@ -56,7 +57,7 @@ module _ {A : Type 0} {plan : Plan} {S : State A} (k : Fine plan S) where
   handle_room None t = no_object_room k
   handle_room (Some h) t = declared_room k h.id.0 t
 
-  stage_effect_doable : (d : ℕ) (s : Stage) (i : Option Handle) (U : State A) → U.control ≡ S.control → U.queues ≡ S.queues → d < table_size plan → IsHandleThere plan i
+  stage_effect_doable : (d : ℕ) (s : Stage) (i : Option Handle) (U : State A) → U.control ≡ S.control → U.queues ≡ S.queues → d < declared_end plan → IsHandleThere plan i
       → AreDoable plan (stage_effect plan d s i) U
   stage_effect_doable d stage.Enabled i U c q there t = (handle_room i t, tt)
   stage_effect_doable d stage.Disabled i U c q there t = (handle_room i t, tt)

@@ -43,7 +43,7 @@ use Rattle.wdf_model.specs.rules.Starts.{effect, effect_for, is_ready_for, may_s
 use Rattle.wdf_model.specs.rules.Steps.{is_cpu}
 use Rattle.wdf_model.proofs.Tests.{both_left, both_right, second}
 use Rattle.wdf_model.proofs.Counts.{equal, front_leaves}
-use Rattle.law_machine_room.specs.Kept.{table_size}
+use Rattle.wdf_model.specs.rules.Groups.{declared_end}
 use Rattle.wdf_model.specs.rules.Room.{AreDoable, IsRequest, IsThere, MayHold}
 use Rattle.law_machine_room.proofs.Doable.{Fine, clock_small, cpu_of_plan, doable_after, held_few, inside, locks_few, next_frame_few, next_frame_fresh, request_here, stack_there}
 use Rattle.law_machine_room.proofs.DoableFrames.{same_there}
@@ -126,7 +126,7 @@ module _ {A : Type 0} {plan : Plan} {S : State A} (k : Fine plan S) where
       let line = k.places.queued q r in
       request_here k r (queued_undone q (place_of S.requests r) (flagged (is_queued_in q (place_of S.requests r)) (omega arith)))
 
-  pub may_hold : (q r : ℕ) → q < table_size plan → IsRequest S r → MayHold S q r
+  pub may_hold : (q r : ℕ) → q < declared_end plan → IsRequest S r → MayHold S q r
   may_hold q r there request = let size = k.room.sizes.dispatch in record { queue = omega arith; few = held_few k; request = request }
 
   pub present_doable : (q r : ℕ) → same_id (front S.queues q) r ≡ true → AreDoable plan (Present (object_id q) (object_id r) ∷ []) S

@@ -10,7 +10,7 @@ use Rattle.wdf_base.specs.declared.call.CallKind.TheVariants as call
 use Rattle.wdf_model.specs.Plans.{parent_of_class}
 use Rattle.wdf_model.specs.State.{State, object_in}
 use Rattle.wdf_model.specs.declared.deed.Deed.{Deed}
-use Rattle.wdf_model.specs.rules.Faults.{arg_is}
+use Rattle.wdf_base.specs.Values.{arg_is}
 use Rattle.wdf_model.specs.rules.Calls.{Outcome, acknowledge_outcome, class_in, create_outcome, dpc_outcome, forward_outcome, isr_dpc_outcome, mark_outcome, notify_outcome, number_in, origin_or_none, outcome, requeue_outcome, retrieve_front, retrieve_outcome, second_deeds, send_outcome, timer_outcome, work_outcome}
 use Rattle.wdf_model.proofs.Counts.{count_behind, count_no, count_yes, not_equal}
 use Rattle.wdf_model.proofs.Tests.{both_left, both_right, decided, not_true}

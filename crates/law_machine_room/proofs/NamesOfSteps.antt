@@ -22,13 +22,15 @@ use Rattle.wdf_model.specs.declared.enums.Phase.{Phase}
 use Rattle.wdf_model.specs.declared.enums.Phase.TheVariants.{Off, Working, Sleeping, Removed}
 use Rattle.wdf_model.specs.Tables.{first_of_list}
 use Rattle.wdf_model.specs.Plans.{device_of, interrupts_of}
-use Rattle.wdf_model.specs.parts.Pnp.{DeviceSteps, InterruptSteps, Pnp, Sequence, disable_steps, down_steps, enable_steps, end_steps, flush_steps, hard_steps, interrupt_steps, is_success, left_after, left_after_failure, no_sequence, opening_pnp, opening_sequence, pass, passed, quiet_steps, run, run_if, self_managed_start, sequence_of, steps_for, steps_off, steps_sleeping, steps_working, tail_steps, taken_step, up_steps, with_sequence, with_step}
+use Rattle.wdf_model.specs.parts.Pnp.{DeviceSteps, InterruptSteps, Pnp, Sequence, disable_steps, down_steps, enable_steps, end_steps, flush_steps, hard_steps, interrupt_steps, left_after, left_after_failure, no_sequence, opening_pnp, opening_sequence, pass, passed, quiet_steps, run, run_if, self_managed_start, sequence_of, steps_for, steps_off, steps_sleeping, steps_working, tail_steps, taken_step, up_steps, with_sequence, with_step}
 use Rattle.wdf_model.specs.parts.Pnp as pnp
 use Rattle.wdf_model.proofs.Counts.{one_or_two}
 use Rattle.wdf_model.proofs.Maps.{entry_past, entry_put_other, entry_put_same}
-use Rattle.law_machine_room.specs.Kept.{IsStepThere, table_size}
+use Rattle.law_machine_room.specs.Kept.{IsStepThere}
+use Rattle.wdf_model.specs.rules.Groups.{declared_end}
 use Rattle.law_machine_room.proofs.SizesOfPlans.{interrupts_below}
 use Rattle.law_machine_counts.proofs.StepsOverRuns.{no_device}
+use Rattle.wdf_base.specs.Values.{is_success}
 
 -- ---- lists
 
@@ -49,7 +51,7 @@ StepsThere plan left = All (IsStepThere plan) left
 
 -- the interrupts of a device's steps are declared ones
 abbrev IsInterruptThere : Plan → InterruptSteps → Type 0
-IsInterruptThere plan i = i.interrupt.id.0 < table_size plan
+IsInterruptThere plan i = i.interrupt.id.0 < declared_end plan
 
 abbrev pub AreMadeOf : Plan → DeviceSteps → Type 0
 AreMadeOf plan p = All (IsInterruptThere plan) p.interrupts
@@ -74,7 +76,7 @@ module _ (plan : Plan) where
   pass_there : (s : Stage) → StepsThere plan (pass s)
   pass_there s = one_there (step.Pass s None) tt
 
-  run_if_there : (b : Bool) (c : Callback) (i : Handle) → i.id.0 < table_size plan → StepsThere plan (run_if b c i)
+  run_if_there : (b : Bool) (c : Callback) (i : Handle) → i.id.0 < declared_end plan → StepsThere plan (run_if b c i)
   run_if_there true c i h = one_there (step.Run c (Some i)) h
   run_if_there false c i h = none_there
 
@@ -271,10 +273,10 @@ opened : (plan : Plan) (d : ℕ) → SequenceNamed plan d (opening_sequence plan
 opened plan d = record { left = subst (StepsThere plan) (sym (opening_left plan d (device_of plan d))) (none_there plan); made_of = refl }
 
 pub opening_read : (plan : Plan) (d : ℕ) → sequence_of (opening_pnp plan) d ≡ opening_sequence plan d (device_of plan d)
-opening_read plan d = elim (cases_lt d (table_size plan)) [
-  | inl within ↦ get_or-map-range_with_len (λ x. opening_sequence plan x (device_of plan x)) 0 (table_size plan) d d no_sequence within (omega arith)
+opening_read plan d = elim (cases_lt d (declared_end plan)) [
+  | inl within ↦ get_or-map-range_with_len (λ x. opening_sequence plan x (device_of plan x)) 0 (declared_end plan) d d no_sequence within (omega arith)
   | inr past ↦
-      let long : length (opening_pnp plan).devices ≡ table_size plan = length-map-range_with_len (λ x. opening_sequence plan x (device_of plan x)) 0 (table_size plan) in
+      let long : length (opening_pnp plan).devices ≡ declared_end plan = length-map-range_with_len (λ x. opening_sequence plan x (device_of plan x)) 0 (declared_end plan) in
       entry_past no_sequence (opening_pnp plan).devices d (omega arith) ∙ sym (ap (opening_sequence plan d) (no_device plan d past))
 ]
 

@@ -22,7 +22,8 @@ use Rattle.wdf_model.proofs.Tests.{both, both_left, both_right}
 use Rattle.law_machine_base.proofs.KeptByDeeds.{is_arrival, none_arrives}
 use Rattle.law_machine_base.proofs.Arrivals.{event_none, is_arrival_event}
 use Rattle.wdf_model.specs.rules.Room.{AreDoable}
-use Rattle.law_machine_room.specs.Kept.{NamesKept, SizesKept, table_size}
+use Rattle.law_machine_room.specs.Kept.{NamesKept, SizesKept}
+use Rattle.wdf_model.specs.rules.Groups.{declared_end}
 use Rattle.law_machine_room.proofs.NamesOfRequests.{none_named}
 use Rattle.law_machine_room.proofs.NamesOfFrames.{opening_named}
 use Rattle.law_machine_room.proofs.NamesOfSteps.{opening_steps_named}
@@ -59,7 +60,7 @@ event_anew plan S e = elim (cases_Bool (is_arrival_event e)) [
 -- ---- the opening, and one event more
 
 pub names_open : {A : Type 0} (plan : Plan) (m : Meaning A) → NamesKept plan (opening plan m)
-names_open plan m = kept_of_named plan (opening plan m) (record { requests = λ r. none_named (table_size plan); frames = opening_named plan; steps = opening_steps_named plan })
+names_open plan m = kept_of_named plan (opening plan m) (record { requests = λ r. none_named (declared_end plan); frames = opening_named plan; steps = opening_steps_named plan })
 
 names_counted : {A : Type 0} (plan : Plan) (m : Meaning A) (e : Event) (S : State A) → Named plan S → Named plan (counted m e S)
 names_counted plan m e S k = record { requests = k.requests; frames = k.frames; steps = k.steps }

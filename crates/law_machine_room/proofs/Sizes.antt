@@ -20,7 +20,8 @@ use Rattle.wdf_model.specs.parts.Targets.{Target, Targets, no_target, opening_ta
 use Rattle.wdf_model.specs.Plans.{is_managed}
 use Rattle.wdf_model.specs.rules.Deeds.{hold_power, release_line, release_power}
 use Rattle.wdf_model.proofs.Maps.{as_long, entry_map, entry_past, entry_put_other, entry_put_same, put_within}
-use Rattle.law_machine_room.specs.Kept.{TargetsKept, table_size}
+use Rattle.law_machine_room.specs.Kept.{TargetsKept}
+use Rattle.wdf_model.specs.rules.Groups.{declared_end}
 use Rattle.law_machine_counts.proofs.PowerQueues.{held_devices, released_devices}
 
 -- a write within a map keeps its length
@@ -89,10 +90,10 @@ advanced_sized n P d (step.Pass s i) h k = stage_sized n P d s h k
 -- ---- targets
 
 -- a target is written, with its depth
-pub target_kept : (plan : Plan) (T : Targets) (t : ℕ) (new : Target) → t < table_size plan → new.depth ≡ (the_target T t).depth → TargetsKept plan T
+pub target_kept : (plan : Plan) (T : Targets) (t : ℕ) (new : Target) → t < declared_end plan → new.depth ≡ (the_target T t).depth → TargetsKept plan T
     → TargetsKept plan (record { targets = put no_target T.targets t new })
 target_kept plan T t new h same k = record {
-  many = as_many no_target T.targets t new (table_size plan) h k.many;
+  many = as_many no_target T.targets t new (declared_end plan) h k.many;
   depths = λ x. at x (cases_eq x t);
 }
   where

@@ -27,16 +27,17 @@ use Rattle.wdf_model.specs.declared.deed.Deed.TheVariants.{Arrive, AskDeletion, 
 use Rattle.wdf_model.specs.rules.Deeds.{arrive_at, ask_object, close_queue, close_returning, do_deed, do_deeds, give_up, give_up_if, release_line, release_power, withdraw}
 use Rattle.law_machine_base.proofs.Deletion.{object_live, object_off}
 use Rattle.wdf_model.specs.rules.Room.{AreDoable, IsDoable, MayEnterIfQueued, MayGiveUp}
-use Rattle.law_machine_room.specs.Kept.{SizesKept, TargetsKept, table_size}
+use Rattle.law_machine_room.specs.Kept.{SizesKept, TargetsKept}
+use Rattle.wdf_model.specs.rules.Groups.{declared_end}
 use Rattle.law_machine_room.proofs.Sizes.{QueuesSized, advanced_sized, as_many, cancelled_sized, control_sized, held_sized, hold_stays, mode_sized, release_stays, released_sized, shut_sized, taken_sized, takes_within, target_kept, targets_kept, waiting_sized}
 use Rattle.law_machine_room.proofs.SizesOfPlans.{queues_below}
 
-queues_sized : {A : Type 0} {plan : Plan} {S : State A} → SizesKept plan S → QueuesSized (table_size plan) S.queues
+queues_sized : {A : Type 0} {plan : Plan} {S : State A} → SizesKept plan S → QueuesSized (declared_end plan) S.queues
 queues_sized k = record { dispatch = k.dispatch; waiting = k.waiting; held = k.held }
 
 -- the sizes, by the parts
-sized : {A : Type 0} (plan : Plan) (S : State A) → QueuesSized (table_size plan) S.queues → length S.control.controls ≡ table_size plan
-    → length S.power.devices ≡ table_size plan → length S.pnp.devices ≡ table_size plan → TargetsKept plan S.targets
+sized : {A : Type 0} (plan : Plan) (S : State A) → QueuesSized (declared_end plan) S.queues → length S.control.controls ≡ declared_end plan
+    → length S.power.devices ≡ declared_end plan → length S.pnp.devices ≡ declared_end plan → TargetsKept plan S.targets
     → length S.cpus.stacks ≡ plan.cpus → length S.dpcs.lists ≡ plan.cpus → length S.agents ≡ agent_count plan → SizesKept plan S
 sized plan S lines controls powers sequences targets stacks lists agents = record {
   dispatch = lines.dispatch;
@@ -53,10 +54,10 @@ sized plan S lines controls powers sequences targets stacks lists agents = recor
 
 -- ---- what deeds do on the way
 
-given_up_by : {A : Type 0} (plan : Plan) (S : State A) (b : Bool) (from : Option ℕ) (P : Power) → P.devices ≡ S.power.devices → unwrap_or from 0 < table_size plan
+given_up_by : {A : Type 0} (plan : Plan) (S : State A) (b : Bool) (from : Option ℕ) (P : Power) → P.devices ≡ S.power.devices → unwrap_or from 0 < declared_end plan
     → SizesKept plan S → SizesKept plan (if b then record S { queues = release_line S.queues from; power = P } else S)
 given_up_by plan S true from P e h k =
-    sized plan _ (released_sized (table_size plan) S.queues from h (queues_sized k)) k.controls (ap length e ∙ k.powers) k.sequences k.targets k.stacks k.dpcs k.agents
+    sized plan _ (released_sized (declared_end plan) S.queues from h (queues_sized k)) k.controls (ap length e ∙ k.powers) k.sequences k.targets k.stacks k.dpcs k.agents
 given_up_by plan S false from P e h k = k
 
 given_up : {A : Type 0} (plan : Plan) (S : State A) (r : ℕ) → MayGiveUp S r → SizesKept plan S → SizesKept plan (give_up S r)
@@ -79,7 +80,7 @@ all_asked plan [] S k = k
 all_asked plan (x ∷ xs) S k = all_asked plan xs (ask_object S x) (asked_by plan S x (is_live (life_of S.tree x)) refl k)
 
 withdrawn : {A : Type 0} (plan : Plan) (q : ℕ) (S : State A) (r : ℕ) → SizesKept plan S → SizesKept plan (withdraw plan q S r)
-withdrawn plan q S r k = sized plan _ (cancelled_sized (table_size plan) S.queues r (queues_sized k)) k.controls k.powers k.sequences k.targets k.stacks k.dpcs k.agents
+withdrawn plan q S r k = sized plan _ (cancelled_sized (declared_end plan) S.queues r (queues_sized k)) k.controls k.powers k.sequences k.targets k.stacks k.dpcs k.agents
 
 all_withdrawn : {A : Type 0} (plan : Plan) (q : ℕ) (rs : List ℕ) (S : State A) → SizesKept plan S → SizesKept plan (fold (withdraw plan q) S rs)
 all_withdrawn plan q [] S k = k
@@ -90,17 +91,17 @@ all_returning plan [] S k = k
 all_returning plan (q ∷ qs) S k =
     all_returning plan qs (close_returning S q) (sized plan _ (queues_sized k) k.controls k.powers k.sequences k.targets k.stacks k.dpcs k.agents)
 
-all_closed : {A : Type 0} (plan : Plan) (qs : List ℕ) (S : State A) → All (λ q. q < table_size plan) qs → SizesKept plan S → SizesKept plan (fold close_queue S qs)
+all_closed : {A : Type 0} (plan : Plan) (qs : List ℕ) (S : State A) → All (λ q. q < declared_end plan) qs → SizesKept plan S → SizesKept plan (fold close_queue S qs)
 all_closed plan [] S h k = k
 all_closed plan (q ∷ qs) S h k =
-    all_closed plan qs (close_queue S q) (All-tail (λ x. x < table_size plan) q qs h)
-    (sized plan _ (waiting_sized (table_size plan) S.queues q (λ _. []) (All-head (λ x. x < table_size plan) q qs h) (queues_sized k)) k.controls k.powers k.sequences k.targets k.stacks k.dpcs k.agents)
+    all_closed plan qs (close_queue S q) (All-tail (λ x. x < declared_end plan) q qs h)
+    (sized plan _ (waiting_sized (declared_end plan) S.queues q (λ _. []) (All-head (λ x. x < declared_end plan) q qs h) (queues_sized k)) k.controls k.powers k.sequences k.targets k.stacks k.dpcs k.agents)
 
 arrived : {A : Type 0} (plan : Plan) (S : State A) (device : ℕ) (info : RequestInfo) (p : Place) → MayEnterIfQueued S p (next_id S.tree) → SizesKept plan S → SizesKept plan (arrive_at S device info p)
 arrived plan S device info (place.Queued q) may k =
     let there = may.queue.dispatch in
-    sized plan _ (waiting_sized (table_size plan) S.queues q.0 (λ rs. rs ++ next_id S.tree ∷ []) (omega arith) (queues_sized k))
-    (control_sized (table_size plan) S.control q.0 (λ c. record c { due = c.due || (c.registered && is_empty_queue S.queues q.0) }) (omega arith) k.controls) k.powers k.sequences k.targets k.stacks k.dpcs k.agents
+    sized plan _ (waiting_sized (declared_end plan) S.queues q.0 (λ rs. rs ++ next_id S.tree ∷ []) (omega arith) (queues_sized k))
+    (control_sized (declared_end plan) S.control q.0 (λ c. record c { due = c.due || (c.registered && is_empty_queue S.queues q.0) }) (omega arith) k.controls) k.powers k.sequences k.targets k.stacks k.dpcs k.agents
 arrived plan S device info _ may k = sized plan _ (queues_sized k) k.controls k.powers k.sequences k.targets k.stacks k.dpcs k.agents
 
 stacked : {A : Type 0} (plan : Plan) (S : State A) (cpu : ℕ) (fs : List ℕ) → cpu < length S.cpus.stacks → SizesKept plan S → length (put [] S.cpus.stacks cpu fs) ≡ plan.cpus
@@ -121,20 +122,20 @@ deed_sizes plan (UnparkFrame cpu f) S d k =
     sized plan _ (queues_sized k) k.controls k.powers k.sequences k.targets (stacked plan S cpu.0 (f.0 ∷ stack_of S.cpus cpu.0) d.0 k) k.dpcs k.agents
 deed_sizes plan (Present q r) S d k =
     let there = d.1.queue in
-    sized plan _ (taken_sized (table_size plan) S.queues q.0 (omega arith) (queues_sized k)) k.controls (ap length (hold_stays plan S.power r.0 q.0) ∙ k.powers) k.sequences k.targets k.stacks k.dpcs k.agents
+    sized plan _ (taken_sized (declared_end plan) S.queues q.0 (omega arith) (queues_sized k)) k.controls (ap length (hold_stays plan S.power r.0 q.0) ∙ k.powers) k.sequences k.targets k.stacks k.dpcs k.agents
 deed_sizes plan (Receive q r) S d k =
     let there = d.queue in
-    sized plan _ (held_sized (table_size plan) S.queues q.0 (λ n. n + 1) (omega arith) (queues_sized k)) k.controls (ap length (hold_stays plan S.power r.0 q.0) ∙ k.powers) k.sequences k.targets k.stacks k.dpcs k.agents
+    sized plan _ (held_sized (declared_end plan) S.queues q.0 (λ n. n + 1) (omega arith) (queues_sized k)) k.controls (ap length (hold_stays plan S.power r.0 q.0) ∙ k.powers) k.sequences k.targets k.stacks k.dpcs k.agents
 deed_sizes plan (Requeue r q) S d k =
     let there = d.1.queue.dispatch in
     let g = given_up plan S r.0 d.0 k in
-    sized plan _ (waiting_sized (table_size plan) (give_up S r.0).queues q.0 (λ rs. r.0 ∷ rs) (omega arith) (queues_sized g))
-    (control_sized (table_size plan) (give_up S r.0).control q.0 (λ c. record c { due = c.due || (c.registered && is_empty_queue (give_up S r.0).queues q.0) }) (omega arith) g.controls) g.powers g.sequences g.targets g.stacks g.dpcs g.agents
+    sized plan _ (waiting_sized (declared_end plan) (give_up S r.0).queues q.0 (λ rs. r.0 ∷ rs) (omega arith) (queues_sized g))
+    (control_sized (declared_end plan) (give_up S r.0).control q.0 (λ c. record c { due = c.due || (c.registered && is_empty_queue (give_up S r.0).queues q.0) }) (omega arith) g.controls) g.powers g.sequences g.targets g.stacks g.dpcs g.agents
 deed_sizes plan (Forward r q) S d k =
     let there = d.1.queue.dispatch in
     let g = given_up plan S r.0 d.0 k in
-    sized plan _ (waiting_sized (table_size plan) (give_up S r.0).queues q.0 (λ rs. rs ++ r.0 ∷ []) (omega arith) (queues_sized g))
-    (control_sized (table_size plan) (give_up S r.0).control q.0 (λ c. record c { due = c.due || (c.registered && is_empty_queue (give_up S r.0).queues q.0) }) (omega arith) g.controls) g.powers g.sequences g.targets g.stacks g.dpcs g.agents
+    sized plan _ (waiting_sized (declared_end plan) (give_up S r.0).queues q.0 (λ rs. rs ++ r.0 ∷ []) (omega arith) (queues_sized g))
+    (control_sized (declared_end plan) (give_up S r.0).control q.0 (λ c. record c { due = c.due || (c.registered && is_empty_queue (give_up S r.0).queues q.0) }) (omega arith) g.controls) g.powers g.sequences g.targets g.stacks g.dpcs g.agents
 deed_sizes plan (GiveBack r q) S d k =
     let g = given_up plan S r.0 d k in
     sized plan _ (queues_sized g) g.controls g.powers g.sequences g.targets g.stacks g.dpcs g.agents
@@ -155,30 +156,30 @@ deed_sizes plan (CompleteRequest r) S d k =
     all_asked plan (subtree (give_up S r.0).tree r.0) (record (give_up S r.0) { requests = requests.complete S.requests r.0 })
     (sized plan _ (queues_sized g) g.controls g.powers g.sequences g.targets g.stacks g.dpcs g.agents)
 deed_sizes plan (SetMode q m) S d k =
-    sized plan _ (queues_sized k) (mode_sized (table_size plan) S.control q.0 m (omega arith) k.controls) k.powers k.sequences k.targets k.stacks k.dpcs k.agents
+    sized plan _ (queues_sized k) (mode_sized (declared_end plan) S.control q.0 m (omega arith) k.controls) k.powers k.sequences k.targets k.stacks k.dpcs k.agents
 deed_sizes plan (PurgeQueue q) S d k =
     let there = d.queue.control in
     all_withdrawn plan q.0 (waiting_in S.queues q.0) (record S { control = control.set_mode S.control q.0 mode.Purged })
-    (sized plan _ (queues_sized k) (mode_sized (table_size plan) S.control q.0 mode.Purged (omega arith) k.controls) k.powers k.sequences k.targets k.stacks k.dpcs k.agents)
+    (sized plan _ (queues_sized k) (mode_sized (declared_end plan) S.control q.0 mode.Purged (omega arith) k.controls) k.powers k.sequences k.targets k.stacks k.dpcs k.agents)
 deed_sizes plan (CloseReturning x) S d k = all_returning plan (managed_queues plan x.0) S k
 deed_sizes plan (CloseDevice x) S d k =
     all_closed plan (queues_of plan x.0) (record S { control = control.shut S.control x.0 }) (queues_below plan x.0)
-    (sized plan _ (queues_sized k) (shut_sized (table_size plan) S.control x.0 k.controls) k.powers k.sequences k.targets k.stacks k.dpcs k.agents)
+    (sized plan _ (queues_sized k) (shut_sized (declared_end plan) S.control x.0 k.controls) k.powers k.sequences k.targets k.stacks k.dpcs k.agents)
 deed_sizes plan (RegisterQueue q on) S d k =
-    sized plan _ (queues_sized k) (control_sized (table_size plan) S.control q.0 (λ c. record c { registered = on }) (omega arith) k.controls) k.powers k.sequences k.targets k.stacks k.dpcs k.agents
+    sized plan _ (queues_sized k) (control_sized (declared_end plan) S.control q.0 (λ c. record c { registered = on }) (omega arith) k.controls) k.powers k.sequences k.targets k.stacks k.dpcs k.agents
 deed_sizes plan (NotifyQueue q) S d k =
-    sized plan _ (queues_sized k) (control_sized (table_size plan) S.control q.0 (λ c. record c { due = false }) (omega arith) k.controls) k.powers k.sequences k.targets k.stacks k.dpcs k.agents
+    sized plan _ (queues_sized k) (control_sized (declared_end plan) S.control q.0 (λ c. record c { due = false }) (omega arith) k.controls) k.powers k.sequences k.targets k.stacks k.dpcs k.agents
 deed_sizes plan (AdvancePower x s) S d k =
-    sized plan _ (queues_sized k) k.controls (advanced_sized (table_size plan) S.power x.0 s (omega arith) k.powers) k.sequences k.targets k.stacks k.dpcs k.agents
+    sized plan _ (queues_sized k) k.controls (advanced_sized (declared_end plan) S.power x.0 s (omega arith) k.powers) k.sequences k.targets k.stacks k.dpcs k.agents
 deed_sizes plan (AskDevice x a) S d k =
     sized plan _ (queues_sized k) k.controls k.powers
-    (as_many no_sequence S.pnp.devices x.0 (record (sequence_of S.pnp x.0) { left = steps_for (sequence_of S.pnp x.0).steps (sequence_of S.pnp x.0).ever_working (sequence_of S.pnp x.0).phase a }) (table_size plan) (omega arith) k.sequences)
+    (as_many no_sequence S.pnp.devices x.0 (record (sequence_of S.pnp x.0) { left = steps_for (sequence_of S.pnp x.0).steps (sequence_of S.pnp x.0).ever_working (sequence_of S.pnp x.0).phase a }) (declared_end plan) (omega arith) k.sequences)
     k.targets k.stacks k.dpcs k.agents
 deed_sizes plan (TakeStep x) S d k =
-    sized plan _ (queues_sized k) k.controls k.powers (as_many no_sequence S.pnp.devices x.0 (taken_step (sequence_of S.pnp x.0)) (table_size plan) (omega arith) k.sequences) k.targets k.stacks k.dpcs k.agents
+    sized plan _ (queues_sized k) k.controls k.powers (as_many no_sequence S.pnp.devices x.0 (taken_step (sequence_of S.pnp x.0)) (declared_end plan) (omega arith) k.sequences) k.targets k.stacks k.dpcs k.agents
 deed_sizes plan (EndStep x s result) S d k =
     sized plan _ (queues_sized k) k.controls k.powers
-    (as_many no_sequence S.pnp.devices x.0 (record (sequence_of S.pnp x.0) { left = left_after (sequence_of S.pnp x.0) s result; running = None }) (table_size plan) (omega arith) k.sequences)
+    (as_many no_sequence S.pnp.devices x.0 (record (sequence_of S.pnp x.0) { left = left_after (sequence_of S.pnp x.0) s result; running = None }) (declared_end plan) (omega arith) k.sequences)
     k.targets k.stacks k.dpcs k.agents
 deed_sizes plan (EnqueueDpc cpu o) S d k =
     let there : cpu.0 < length S.dpcs.lists = d.0 in

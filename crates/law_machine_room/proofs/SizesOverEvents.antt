@@ -16,18 +16,19 @@ use Rattle.wdf_model.specs.State.{State, opening}
 use Rattle.wdf_model.specs.rules.Deeds.{counted, do_deeds, told}
 use Rattle.wdf_model.specs.rules.Steps.{after, deeds}
 use Rattle.wdf_model.specs.rules.Room.{AreDoable}
-use Rattle.law_machine_room.specs.Kept.{SizesKept, table_size}
+use Rattle.law_machine_room.specs.Kept.{SizesKept}
+use Rattle.wdf_model.specs.rules.Groups.{declared_end}
 use Rattle.law_machine_room.proofs.SizesByDeeds.{deeds_sizes}
 
 pub sizes_open : {A : Type 0} (plan : Plan) (m : Meaning A) → SizesKept plan (opening plan m)
 sizes_open plan m = record {
-  dispatch = length-map-range_with_len (λ q. opening_dispatch (queue_of plan q)) 0 (table_size plan);
-  waiting = length-map-range_with_len {X = List ℕ} (λ _. []) 0 (table_size plan);
-  held = length-map-range_with_len (λ _. 0) 0 (table_size plan);
-  controls = length-map-range_with_len (λ q. opening_mode (queue_of plan q)) 0 (table_size plan);
-  powers = length-map-range_with_len (λ d. opening_device_power (device_of plan d)) 0 (table_size plan);
-  sequences = length-map-range_with_len (λ d. opening_sequence plan d (device_of plan d)) 0 (table_size plan);
-  targets = record { many = length-map-range_with_len (λ t. opening_target (target_of plan t)) 0 (table_size plan); depths = λ t. refl };
+  dispatch = length-map-range_with_len (λ q. opening_dispatch (queue_of plan q)) 0 (declared_end plan);
+  waiting = length-map-range_with_len {X = List ℕ} (λ _. []) 0 (declared_end plan);
+  held = length-map-range_with_len (λ _. 0) 0 (declared_end plan);
+  controls = length-map-range_with_len (λ q. opening_mode (queue_of plan q)) 0 (declared_end plan);
+  powers = length-map-range_with_len (λ d. opening_device_power (device_of plan d)) 0 (declared_end plan);
+  sequences = length-map-range_with_len (λ d. opening_sequence plan d (device_of plan d)) 0 (declared_end plan);
+  targets = record { many = length-map-range_with_len (λ t. opening_target (target_of plan t)) 0 (declared_end plan); depths = λ t. refl };
   stacks = length-replicate {A = List ℕ} plan.cpus [];
   dpcs = length-replicate {A = List ℕ} plan.cpus [];
   agents = length-map-range_with_len (m.begin plan) 0 (agent_count plan);

@@ -11,7 +11,7 @@ use Rattle.wdf_base.specs.declared.event.Stage.TheVariants as stage
 use Rattle.wdf_base.specs.declared.event.Step.{Step}
 use Rattle.wdf_base.specs.declared.event.Step.TheVariants as step
 use Rattle.wdf_model.specs.Tables.{entry}
-use Rattle.wdf_model.specs.parts.Pnp.{Pnp, Sequence, is_success, left_after, left_after_failure, no_sequence, run, sequence_of, steps_for, tail_steps, taken_step}
+use Rattle.wdf_model.specs.parts.Pnp.{Pnp, Sequence, left_after, left_after_failure, no_sequence, run, sequence_of, steps_for, tail_steps, taken_step}
 use Rattle.wdf_model.specs.parts.Pnp as pnp
 use Rattle.wdf_model.specs.State.{State}
 use Rattle.wdf_model.proofs.Maps.{entry_put_other, entry_put_same}
@@ -25,6 +25,7 @@ use Rattle.law_machine_states.specs.Settled.{settles_next}
 use Rattle.law_machine_states.proofs.Lists.{agree, asked_whole, end_ordered, falls, in_order, is_end, tail_whole, turns_by}
 use Rattle.law_trace_power.specs.UnderWay.{step_if_any, under_way}
 use Rattle.law_trace_power.proofs.Sequences.{free_runs_none}
+use Rattle.wdf_base.specs.Values.{is_success}
 
 -- ---- ends of lists
 

@@ -11,7 +11,7 @@
 //!   have as a name.
 #![tactic(auto)]
 
-ghost use Rattle.std.specs.Prelude.{◌≡◌, ◌∷◌, List, None, Some, codes, drop, map, take};
+ghost use Rattle.std.specs.Prelude.{◌≡◌, ◌∷◌, None, Some, codes, drop, map, take};
 ghost use Rattle.std.specs.List.{flat_map};
 ghost use Rattle.wdf_base.specs.declared.declared.RegisterInfo.{RegisterInfo};
 ghost use Rattle.wdf_scene.specs.declared.scene.Scene.{Scene};

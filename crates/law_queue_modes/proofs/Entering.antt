@@ -28,7 +28,7 @@ use Rattle.wdf_model.specs.State.{State, object_in}
 use Rattle.wdf_model.specs.Ids.{object_id}
 use Rattle.wdf_model.specs.declared.deed.Deed.TheVariants.{Acknowledge, Arrive, CountArrival, Forward, GiveBack, Requeue, SetMode}
 use Rattle.wdf_model.specs.rules.Deeds.{do_deeds}
-use Rattle.wdf_model.specs.rules.Faults.{arg_is}
+use Rattle.wdf_base.specs.Values.{arg_is}
 use Rattle.wdf_model.specs.rules.Calls.{Outcome, forward_outcome, forwards_nowhere, origin_or_none, outcome, refused, requeue_outcome, success}
 use Rattle.wdf_model.specs.rules.Posts.{arrival_info, arrival_place, is_data, place_if_any, place_in_queue, takes_empty}
 use Rattle.wdf_model.specs.rules.Steps.{deeds, may}

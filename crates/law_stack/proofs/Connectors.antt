@@ -26,7 +26,7 @@ use Rattle.wdf_model.specs.parts.Requests.{place_of}
 use Rattle.wdf_model.specs.parts.Targets.{is_at_target, is_undone, pending, the_target}
 use Rattle.wdf_model.specs.State.{State, is_proper, object_in}
 use Rattle.wdf_model.specs.rules.Posts.{ARRIVALS, due_of, may_finish, post_fits}
-use Rattle.wdf_model.specs.rules.Faults.{arg_is}
+use Rattle.wdf_base.specs.Values.{arg_is}
 use Rattle.wdf_model.specs.rules.Steps.{after, deeds, may}
 use Rattle.wdf_model.specs.agents.Connector.{Connector, arrival_own, arrival_posted, arrival_taken, cancelled_if_any, completed_by, connector_after, connector_called, connector_posted, keep_arrival, request_lines, with_sent}
 use Rattle.wdf_model.specs.agents.LowerTarget.{handle_in_arg}

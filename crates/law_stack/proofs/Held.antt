@@ -36,7 +36,7 @@ use Rattle.wdf_model.specs.parts.Tree.{life_of}
 use Rattle.wdf_model.specs.parts.Targets.{Targets, is_at_target, routine_due, routine_outcome, takes_more, the_target}
 use Rattle.wdf_model.specs.parts.Targets as targets
 use Rattle.wdf_model.specs.State.{State, declared_in, object_in}
-use Rattle.wdf_model.specs.rules.Faults.{arg_is}
+use Rattle.wdf_base.specs.Values.{arg_is}
 use Rattle.wdf_model.specs.rules.Calls.{may_send, outcome}
 use Rattle.wdf_model.specs.rules.Deeds.{do_deeds}
 use Rattle.wdf_model.specs.rules.Starts.{new_frame, next_number, start_effect}

@@ -13,11 +13,11 @@ use Rattle.wdf_base.specs.declared.event.Event.TheVariants as event
 use Rattle.wdf_base.specs.Callbacks.{is_query}
 use Rattle.wdf_model.specs.declared.enums.Phase.{Phase}
 use Rattle.wdf_model.specs.declared.stack.StackDevice.{StackDevice}
-use Rattle.wdf_model.specs.parts.Pnp.{is_success}
 use Rattle.wdf_model.specs.agents.StackManager.{StackManager, asked, awaited_drops, awaits, came_to, changes_nothing, drops, ended, is_device, is_working, known, manager_posted, phase_in, phase_of_stage, stack_manager_after, with_phase, with_phase_one, with_post}
 use Rattle.wdf_model.proofs.Tests.{itself}
 use Rattle.law_stack.specs.Words.{works, works_after, works_step}
 use Rattle.law_stack.proofs.Chains.{Knows, at_phase, known_phase, phase_after, stage_works, works_next}
+use Rattle.wdf_base.specs.Values.{is_success}
 
 -- ---- the devices after an event
 

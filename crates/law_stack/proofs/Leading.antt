@@ -22,7 +22,7 @@ use Rattle.wdf_base.specs.Callbacks.{is_query, row_of}
 use Rattle.wdf_model.specs.declared.enums.Phase.{Phase}
 use Rattle.wdf_model.specs.declared.enums.Phase.TheVariants.{Off, Working, Sleeping, Removed}
 use Rattle.wdf_model.specs.declared.stack.AskPost.{AskPost}
-use Rattle.wdf_model.specs.parts.Pnp.{Pnp, Sequence, busy, is_success, left_after, left_after_failure, sequence_of, steps_for, steps_left, taken_step, with_sequence}
+use Rattle.wdf_model.specs.parts.Pnp.{Pnp, Sequence, busy, left_after, left_after_failure, sequence_of, steps_for, steps_left, taken_step, with_sequence}
 use Rattle.wdf_model.specs.parts.Pnp as pnp
 use Rattle.wdf_model.specs.agents.StackManager.{StackManager, asked, awaited_drops, awaits, came_to, changes_nothing, drops, ended, follower, goes_up, is_alone, is_working, manager_posted, phase_in, phase_of_stage, post_after, query_ended, stack_manager_after, unless_dropped, with_post}
 use Rattle.wdf_model.proofs.Counts.{equal, one_or_two}
@@ -36,6 +36,7 @@ use Rattle.law_stack.proofs.Orders.{follower_of, next_in_order, order_stays}
 use Rattle.law_stack.proofs.Sequences.{down_asked, down_end, down_tail, is_last, last_only, not_up, nothing_after, nothing_asked}
 use Rattle.law_stack.proofs.Turning.{all_free, busy_elsewhere, busy_left, busy_running, left_begun, left_passed, phase_of, runs_passed, sequence_here}
 use Rattle.law_trace_power.proofs.Sequences.{free_runs_none, refused_query}
+use Rattle.wdf_base.specs.Values.{is_success}
 
 -- ---- what holds of the manager
 

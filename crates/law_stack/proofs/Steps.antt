@@ -22,7 +22,7 @@ use Rattle.wdf_model.specs.declared.stack.Arrival.{Arrival}
 use Rattle.wdf_model.specs.declared.stack.Descent.TheVariants as descent
 use Rattle.wdf_model.specs.Tables.{flag, in_order_by, tick_after}
 use Rattle.wdf_model.specs.State.{object_in}
-use Rattle.wdf_model.specs.rules.Faults.{arg_is}
+use Rattle.wdf_base.specs.Values.{arg_is}
 use Rattle.wdf_model.specs.rules.Posts.{ARRIVALS}
 use Rattle.wdf_model.specs.agents.LowerTarget.{handle_in_arg}
 use Rattle.wdf_model.specs.agents.Connector.{Connector, arrival_own, arrival_posted, arrival_taken, cancel_called, cancel_posted, cancelled, cancelled_if_any, completed_by, connector_after, connector_called, keep_arrival, made_post, passed_down, post_for, send_called, stop_called, with_completed, with_sent, without_request}

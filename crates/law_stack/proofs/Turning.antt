@@ -11,7 +11,7 @@ use Rattle.wdf_base.specs.declared.event.Stage.TheVariants as stage
 use Rattle.wdf_base.specs.declared.event.Step.{Step}
 use Rattle.wdf_base.specs.declared.event.Step.TheVariants as step
 use Rattle.wdf_model.specs.declared.enums.Phase.{Phase}
-use Rattle.wdf_model.specs.parts.Pnp.{Pnp, Sequence, busy, is_success, left_after, left_after_failure, no_sequence, passed, running_step, sequence_of, steps_for, steps_left, taken_step, with_sequence}
+use Rattle.wdf_model.specs.parts.Pnp.{Pnp, Sequence, busy, left_after, left_after_failure, no_sequence, passed, running_step, sequence_of, steps_for, steps_left, taken_step, with_sequence}
 use Rattle.wdf_model.specs.parts.Pnp as pnp
 use Rattle.wdf_model.specs.State.{State}
 use Rattle.wdf_model.proofs.Counts.{equal, not_equal, one_or_two}
@@ -23,6 +23,7 @@ use Rattle.law_stack.proofs.Knowing.{phases_after}
 use Rattle.law_stack.proofs.Sequences.{last_asked, last_dropped, last_end, last_only, last_tail}
 use Rattle.law_machine_counts.proofs.StepMoves.{passed_running}
 use Rattle.law_trace_power.proofs.Sequences.{passed_left}
+use Rattle.wdf_base.specs.Values.{is_success}
 
 -- ---- one device changes, and no other
 

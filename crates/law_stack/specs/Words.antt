@@ -20,7 +20,7 @@ use Rattle.wdf_base.specs.Same.{same_call_kind, same_status, same_value}
 use Rattle.wdf_base.specs.Posts.{is_request}
 use Rattle.wdf_model.specs.Plans.{device_of, first_device_agent, target_of_agent}
 use Rattle.wdf_model.specs.State.{object_in}
-use Rattle.wdf_model.specs.rules.Faults.{arg_is}
+use Rattle.wdf_base.specs.Values.{arg_is}
 use Rattle.wdf_model.specs.agents.Chains.{connected_to}
 use Rattle.wdf_laws.specs.Events.{argument_object, id_in}
 

@@ -3,7 +3,7 @@
 //! level, and once where the device of that level was destroyed. A stack comes up from the bottom and goes down from the top.
 #![tactic(auto)]
 
-ghost use Rattle.std.specs.Prelude.{◌≡◌, ◌≤◌, ◌<◌, ℕ, suc, true, count_by, List, Some, slice_get, take};
+ghost use Rattle.std.specs.Prelude.{◌≡◌, ◌≤◌, ◌<◌, ℕ, true, count_by, List, Some, slice_get, take};
 ghost use Rattle.wdf_base.specs.Meaning.{Meaning};
 ghost use Rattle.wdf_base.specs.Resolved.{IsResolved};
 ghost use Rattle.wdf_base.specs.declared.plan.Plan.{Plan};

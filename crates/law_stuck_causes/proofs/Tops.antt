@@ -29,7 +29,8 @@ use Rattle.wdf_model.specs.parts.Deferred.Timers.{any_later_timer}
 use Rattle.wdf_model.specs.parts.Deferred.WorkItems.{is_work_queued}
 use Rattle.wdf_model.specs.State.{State, handle_in, held_from, nothing_at, object_in}
 use Rattle.wdf_model.specs.rules.Calls.{is_met, nothing_held, nothing_returns}
-use Rattle.wdf_model.specs.rules.Faults.{arg_is, fault_of}
+use Rattle.wdf_model.specs.rules.Faults.{fault_of}
+use Rattle.wdf_base.specs.Values.{arg_is}
 use Rattle.wdf_model.specs.rules.Groups.{unparks, candidates, candidate}
 use Rattle.wdf_model.specs.rules.Ready.{IsRunOf, any_spends, ending_of, state_after}
 use Rattle.wdf_model.specs.rules.Script.{intent_of}

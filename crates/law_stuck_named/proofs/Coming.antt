@@ -47,7 +47,7 @@ use Rattle.wdf_base.specs.Lives.{is_cleaned, is_gone, is_live}
 use Rattle.wdf_base.specs.Places.{is_closing, is_done, is_owned}
 use Rattle.wdf_model.specs.Tables.{contains}
 use Rattle.wdf_model.specs.Plans.{as_device, as_interrupt, declares, device_of, interrupt_of, is_target_of, target_of}
-use Rattle.wdf_model.specs.parts.Tree.{gone, kind_of, life_of, nearest_device, parent_of, subtree}
+use Rattle.wdf_model.specs.parts.Tree.{declared_parent, gone, kind_of, life_of, nearest_device, parent_of, subtree}
 use Rattle.wdf_model.specs.parts.Cpus.{frame_of, top}
 use Rattle.wdf_model.specs.parts.Locks.{lock_of_callback}
 use Rattle.wdf_model.specs.parts.Interrupts.{is_enabled}
@@ -77,14 +77,13 @@ use Rattle.law_machine_base.proofs.FitsOfEvents.{by_its_top, event_fits}
 use Rattle.law_machine_base.proofs.OwnEvents.{IsEnd, did_tells, end_tells, waiting_tells}
 use Rattle.wdf_model.proofs.Sames.{kind_decides}
 use Rattle.law_machine_counts.proofs.StillFrames.{live_there}
-use Rattle.law_machine_room.specs.Kept.{table_size}
+use Rattle.wdf_model.specs.rules.Groups.{declared_end}
 use Rattle.law_machine_lives.proofs.LevelEvents.{stale_first}
 use Rattle.law_machine_lives.proofs.LivesOver.{Lives}
 use Rattle.law_machine_lives.proofs.Lists.{all_of_kept, inside}
 use Rattle.law_machine_lives.proofs.Queued.{any_entry}
 use Rattle.law_machine_lives.proofs.SoundEvents.{top_on}
 use Rattle.law_machine_lives.proofs.SoundRuns.{KnownAll}
-use Rattle.wdf_laws.specs.Family.{declared_parent}
 use Rattle.law_trace_families.proofs.Families.{declared_within}
 use Rattle.law_trace_power.proofs.Frames.{Runs, StepFrames, is_step}
 use Rattle.law_trace_power.proofs.Belonging.{device_of_target, interrupt_found, target_found}
@@ -104,7 +103,7 @@ pub record Facts {A : Type 0} (plan : Plan) (S : State A) : Type 0 where
   pub frames : StepFrames S.cpus S.pnp
   pub lives : Lives S.tree
   pub declared : (o : ℕ) (d : Declared) → declared_of plan o ≡ Some d → is_gone (life_of S.tree o) ≡ false → (parent_of S.tree o ≡ declared_parent d) × (kind_of S.tree o ≡ unwrap_or (declared_kind d) kind.General)
-  pub room : table_size plan ≤ length S.tree.nodes
+  pub room : declared_end plan ≤ length S.tree.nodes
 
 -- the driver object is the first that is declared
 driver_first : (ds : List Declared) → objects_in_order ds ≡ true → slice_get ds 0 ≡ Some declared.Driver
@@ -233,13 +232,13 @@ module _ {A : Type 0} (plan : Plan) (S : State A) (resolved : IsResolved plan) (
           let yes : is_never_deleted (kind_of S.tree o) ≡ true = ap is_never_deleted same ∙ h in
           let z : ⊥ = cc in z
 
-  past_declared : (o : ℕ) (d : Declared) → table_size plan ≤ o → declared_of plan o ≡ Some d → ⊥
+  past_declared : (o : ℕ) (d : Declared) → declared_end plan ≤ o → declared_of plan o ≡ Some d → ⊥
   past_declared o d low e = let w = declared_within plan o d e in let z : ⊥ = omega arith in z
 
   -- a request that isn't done
   removes_request : (r : ℕ) → is_done (place_of S.requests r) ≡ false → Removable plan S r
   removes_request r undone =
-      let low : table_size plan ≤ r = (k.opened r).0 undone in
+      let low : declared_end plan ≤ r = (k.opened r).0 undone in
       let some : 1 ≤ length plan.declared = some_declared plan.declared (driver_is plan resolved) in
       removes_made r (λ e. let z : ⊥ = omega arith in z) (λ e. let z : ⊥ = omega arith in z)
       (λ d is live. let p = part_is plan d r is in past_declared r p.info low p.is)

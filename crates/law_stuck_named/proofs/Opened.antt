@@ -30,7 +30,7 @@ use Rattle.wdf_model.proofs.Tests.{both_left, both_right}
 use Rattle.wdf_model.proofs.Maps.{entry_map, entry_put_other, entry_put_same, entry_set_other, set_read}
 use Rattle.wdf_model.proofs.Counts.{at_head, equal, front_leaves, one_or_two}
 use Rattle.law_machine_counts.proofs.HeldMoves.{Placed}
-use Rattle.law_machine_room.specs.Kept.{table_size}
+use Rattle.wdf_model.specs.rules.Groups.{declared_end}
 use Rattle.law_machine_lives.proofs.Sound.{Sound}
 use Rattle.law_machine_lives.proofs.Stays.{asks_all, given, given_if}
 use Rattle.law_machine_base.proofs.KeptByDeeds.{owned_undone}
@@ -48,7 +48,7 @@ is_undone_request e = has_arrived e && not (is_done e.place)
 
 -- a request that isn't done is no declared object, and where it arrived, its device passes
 abbrev pub IsOpened : Plan → (ℕ → Bool) → ℕ → Request → Type 0
-IsOpened plan L r e = (is_done e.place ≡ false → table_size plan ≤ r) × (is_undone_request e ≡ true → L e.info.device.0 ≡ true)
+IsOpened plan L r e = (is_done e.place ≡ false → declared_end plan ≤ r) × (is_undone_request e ≡ true → L e.info.device.0 ≡ true)
 
 abbrev pub Opened : Plan → (ℕ → Bool) → Requests → Type 0
 Opened plan L R = (r : ℕ) → IsOpened plan L r (request_of R r)
@@ -204,7 +204,7 @@ module _ (plan : Plan) (L : ℕ → Bool) where
   ArrivesWell _ = ⊤
 
   -- a deed
-  pub opened_by : {A : Type 0} (d : Deed) (S : State A) → fits plan d S ≡ true → Sound plan d S → Placed S → table_size plan ≤ next_id S.tree → ArrivesWell d → Opened plan L S.requests
+  pub opened_by : {A : Type 0} (d : Deed) (S : State A) → fits plan d S ≡ true → Sound plan d S → Placed S → declared_end plan ≤ next_id S.tree → ArrivesWell d → Opened plan L S.requests
       → Opened plan L (do_deed plan d S).requests
   opened_by (MakeRequest class parent) S f s p room comes k = new_one S.requests (next_id S.tree) place.Owned (made_info (nearest_device S.tree parent.0)) (λ h. room, λ h. absurd (let z : ⊥ = cc in z)) k
   opened_by (Arrive device info at) S f s p room comes k =

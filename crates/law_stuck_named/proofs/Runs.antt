@@ -13,7 +13,7 @@ use Rattle.wdf_base.specs.declared.object.Kind.TheVariants as kind
 use Rattle.wdf_base.specs.Lives.{is_gone, is_live}
 use Rattle.wdf_model.specs.Tables.{entry}
 use Rattle.wdf_model.specs.Plans.{as_device, device_of}
-use Rattle.wdf_model.specs.parts.Tree.{declared_node, gone, kind_of, life_of, opening_tree, parent_of}
+use Rattle.wdf_model.specs.parts.Tree.{declared_node, declared_parent, gone, kind_of, life_of, opening_tree, parent_of}
 use Rattle.wdf_model.specs.parts.Pnp.{Sequence, no_sequence, opening_pnp, opening_sequence, sequence_of}
 use Rattle.wdf_model.specs.State.{State, opening}
 use Rattle.wdf_model.specs.declared.deed.Deed.{Deed}
@@ -25,13 +25,12 @@ use Rattle.law_machine_base.proofs.KeptByDeeds.{deed_keeps}
 use Rattle.law_machine_base.proofs.FitsOfEvents.{event_fits}
 use Rattle.wdf_model.proofs.Tests.{both_left, both_right}
 use Rattle.law_machine_counts.proofs.HeldMoves.{Placed}
-use Rattle.law_machine_room.specs.Kept.{table_size}
+use Rattle.wdf_model.specs.rules.Groups.{declared_end}
 use Rattle.law_machine_lives.proofs.Keeping.{at_the_end, each_place_by}
 use Rattle.law_machine_lives.proofs.LivesOver.{Lives, lives_at_each}
 use Rattle.law_machine_lives.proofs.OfDevices.{devices_at_each}
 use Rattle.law_machine_lives.proofs.Sound.{AllSound}
 use Rattle.law_machine_lives.proofs.SoundRuns.{all_known, all_sound}
-use Rattle.wdf_laws.specs.Family.{declared_parent}
 use Rattle.law_trace_families.proofs.Families.{family_at_each}
 use Rattle.law_trace_families.proofs.Stays.{deed_stays}
 use Rattle.law_trace_power.proofs.Frames.{StepFrames}
@@ -123,7 +122,7 @@ facts_now {A} plan m resolved run is_run = record {
   lives = at_the_end plan m (λ (S : State A). Lives S.tree) run (lives_at_each plan m run resolved is_run (length run));
   declared = at_the_end plan m (λ (S : State A). (o : ℕ) (d : Declared) → declared_of plan o ≡ Some d → is_gone (life_of S.tree o) ≡ false → (parent_of S.tree o ≡ declared_parent d) × (kind_of S.tree o ≡ unwrap_or (declared_kind d) kind.General)) run
       (family_at_each plan m run is_run (length run)).declared;
-  room = at_the_end plan m (λ (S : State A). table_size plan ≤ length S.tree.nodes) run (let f = (family_at_each plan m run is_run (length run)).declared_first in omega arith);
+  room = at_the_end plan m (λ (S : State A). declared_end plan ≤ length S.tree.nodes) run (let f = (family_at_each plan m run is_run (length run)).declared_first in omega arith);
 }
 
 placed_now : {A : Type 0} (plan : Plan) (m : Meaning A) (run : List Event) → IsRunOf plan m run → Placed (state_after plan m run)
@@ -136,7 +135,7 @@ pub record Known {A : Type 0} (plan : Plan) (S : State A) : Type 0 where
 pub known_now : {A : Type 0} (plan : Plan) (m : Meaning A) → IsResolved plan → (run : List Event) → IsRunOf plan m run → Known plan (state_after plan m run)
 known_now plan m resolved run is_run = record { facts = facts_now plan m resolved run is_run; placed = placed_now plan m run is_run }
 
-deeds_stand : {A : Type 0} (plan : Plan) (ds : List Deed) (S : State A) → all_fit plan ds S ≡ true → AllSound plan ds S → AllComes plan ds S → Placed S → table_size plan ≤ length S.tree.nodes → Stands plan S → Stands plan (do_deeds plan ds S)
+deeds_stand : {A : Type 0} (plan : Plan) (ds : List Deed) (S : State A) → all_fit plan ds S ≡ true → AllSound plan ds S → AllComes plan ds S → Placed S → declared_end plan ≤ length S.tree.nodes → Stands plan S → Stands plan (do_deeds plan ds S)
 deeds_stand plan [] S f s c p room k = k
 deeds_stand {A} plan (d ∷ ds) S f s c p room k =
     let U : State A = do_deed plan d S in

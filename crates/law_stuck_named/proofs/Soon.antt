@@ -16,7 +16,8 @@ use Rattle.wdf_base.specs.declared.event.Step.TheVariants as step
 use Rattle.wdf_base.specs.Same.{same_callback}
 use Rattle.wdf_model.specs.declared.enums.Phase.{Phase}
 use Rattle.wdf_model.specs.declared.enums.Phase.TheVariants.{Off, Working, Sleeping, Removed}
-use Rattle.wdf_model.specs.parts.Pnp.{DeviceSteps, InterruptSteps, Sequence, disable_steps, down_steps, enable_steps, end_steps, flush_steps, hard_steps, is_success, left_after, left_after_failure, pass, passed, quiet_steps, run, run_if, self_managed_start, steps_for, tail_steps, taken_step, up_steps}
+use Rattle.wdf_model.specs.parts.Pnp.{DeviceSteps, InterruptSteps, Sequence, disable_steps, down_steps, enable_steps, end_steps, flush_steps, hard_steps, left_after, left_after_failure, pass, passed, quiet_steps, run, run_if, self_managed_start, steps_for, tail_steps, taken_step, up_steps}
+use Rattle.wdf_base.specs.Values.{is_success}
 
 -- ---- the property
 

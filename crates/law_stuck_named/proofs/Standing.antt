@@ -42,7 +42,7 @@ use Rattle.wdf_model.proofs.Counts.{one_or_two}
 use Rattle.law_machine_base.proofs.Deletion.{object_live, object_off}
 use Rattle.law_machine_counts.proofs.HeldMoves.{Placed}
 use Rattle.law_machine_counts.proofs.StillFrames.{asked_there, live_there}
-use Rattle.law_machine_room.specs.Kept.{table_size}
+use Rattle.wdf_model.specs.rules.Groups.{declared_end}
 use Rattle.law_machine_lives.proofs.Lists.{inside, reads_same}
 use Rattle.law_machine_lives.proofs.Sound.{Sound}
 use Rattle.law_machine_lives.proofs.Stays.{gives_up, gives_up_if, queues_closed, returns_closed, withdraws, asks_all}
@@ -238,10 +238,10 @@ steps_by plan _ S f c = steps_same S.pnp S.pnp refl
 
 -- ---- a deed that asks for no deletion
 
-device_within : (plan : Plan) (d : ℕ) → is_some (device_of plan d) ≡ true → d < table_size plan
+device_within : (plan : Plan) (d : ℕ) → is_some (device_of plan d) ≡ true → d < declared_end plan
 device_within plan d h = by (declared_of plan d) refl h
   where
-    by : (x : Option Declared) → declared_of plan d ≡ x → is_some (device_of plan d) ≡ true → d < table_size plan
+    by : (x : Option Declared) → declared_of plan d ≡ x → is_some (device_of plan d) ≡ true → d < declared_end plan
     by (Some x) e h = let w = declared_within plan d x e in omega arith
     by None e h = absurd (let off : is_some (device_of plan d) ≡ false = rw e refl in let z : ⊥ = cc in z)
 
@@ -260,7 +260,7 @@ arrives_well plan (Arrive device info p) S f c T l =
     both (is_some (device_of plan device.0)) (is_live (life_of T device.0)) c (l.gains device.0 live)
 arrives_well plan _ S f c T l = tt
 
-without_asking : {A : Type 0} (plan : Plan) (d : Deed) (S : State A) → asks_none d ≡ true → fits plan d S ≡ true → Sound plan d S → Comes plan d S → Placed S → table_size plan ≤ length S.tree.nodes → Stands plan S → Stands plan (do_deed plan d S)
+without_asking : {A : Type 0} (plan : Plan) (d : Deed) (S : State A) → asks_none d ≡ true → fits plan d S ≡ true → Sound plan d S → Comes plan d S → Placed S → declared_end plan ≤ length S.tree.nodes → Stands plan S → Stands plan (do_deed plan d S)
 without_asking {A} plan d S none f s c p room k =
     let U : State A = do_deed plan d S in
     let l : LivesStay S.tree U.tree = lives_by plan d S none f in
@@ -279,7 +279,7 @@ without_asking {A} plan d S none f s c p room k =
 -- ---- a deletion is asked
 
 -- with what is below o the deletion is asked in U, of which the tree and the requests that aren't done are those of S
-module _ {A : Type 0} (plan : Plan) (S U : State A) (o : ℕ) (same : U.tree ≡ S.tree) (room : table_size plan ≤ length S.tree.nodes) (free : Removable plan S o) (k : Stands plan S) where
+module _ {A : Type 0} (plan : Plan) (S U : State A) (o : ℕ) (same : U.tree ≡ S.tree) (room : declared_end plan ≤ length S.tree.nodes) (free : Removable plan S o) (k : Stands plan S) where
   abbrev V : State A
   V = ask_objects U o
 
@@ -346,7 +346,7 @@ roots_asked : {A : Type 0} (xs : List ℕ) (S : State A) → IsRoot S.tree → I
 roots_asked [] S h = h
 roots_asked (x ∷ xs) S h = roots_asked xs (ask_object S x) (root_asked S x (is_live (life_of S.tree x)) refl h)
 
-asks : {A : Type 0} (plan : Plan) (S : State A) (o : ℕ) → fits plan (AskDeletion (object_id o)) S ≡ true → table_size plan ≤ length S.tree.nodes → Comes plan (AskDeletion (object_id o)) S → Stands plan S → Stands plan (do_deed plan (AskDeletion (object_id o)) S)
+asks : {A : Type 0} (plan : Plan) (S : State A) (o : ℕ) → fits plan (AskDeletion (object_id o)) S ≡ true → declared_end plan ≤ length S.tree.nodes → Comes plan (AskDeletion (object_id o)) S → Stands plan S → Stands plan (do_deed plan (AskDeletion (object_id o)) S)
 asks {A} plan S o f room c k =
     let W : State A = do_deed plan (AskDeletion (object_id o)) S in
     let t : StepsStay S.pnp W.pnp = steps_by plan (AskDeletion (object_id o)) S f c in
@@ -358,7 +358,7 @@ asks {A} plan S o f room c k =
       over = λ d h. t.over d (over_then plan S S o refl room c.0 k d h);
     }
 
-completes : {A : Type 0} (plan : Plan) (S : State A) (r : ℕ) → fits plan (CompleteRequest (object_id r)) S ≡ true → table_size plan ≤ length S.tree.nodes → Removable plan S r → Stands plan S → Stands plan (do_deed plan (CompleteRequest (object_id r)) S)
+completes : {A : Type 0} (plan : Plan) (S : State A) (r : ℕ) → fits plan (CompleteRequest (object_id r)) S ≡ true → declared_end plan ≤ length S.tree.nodes → Removable plan S r → Stands plan S → Stands plan (do_deed plan (CompleteRequest (object_id r)) S)
 completes {A} plan S r f room c k =
     let W : State A = do_deed plan (CompleteRequest (object_id r)) S in
     let U : State A = record (give_up S r) { requests = requests.complete S.requests r } in
@@ -374,7 +374,7 @@ completes {A} plan S r f room c k =
 
 -- ---- each deed
 
-pub stands_by : {A : Type 0} (plan : Plan) (d : Deed) (S : State A) → fits plan d S ≡ true → Sound plan d S → Comes plan d S → Placed S → table_size plan ≤ length S.tree.nodes → Stands plan S → Stands plan (do_deed plan d S)
+pub stands_by : {A : Type 0} (plan : Plan) (d : Deed) (S : State A) → fits plan d S ≡ true → Sound plan d S → Comes plan d S → Placed S → declared_end plan ≤ length S.tree.nodes → Stands plan S → Stands plan (do_deed plan d S)
 stands_by plan (AskDeletion o) S f s c p room k = asks plan S o.0 f room c k
 stands_by plan (CompleteRequest r) S f s c p room k = completes plan S r.0 f room c k
 stands_by plan d S f s c p room k = without_asking plan d S refl f s c p room k

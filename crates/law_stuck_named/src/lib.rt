@@ -3,7 +3,7 @@
 //! queues, of queued work and of steps is so at each place of every run of a resolved plan. Each law is about a resolved plan.
 #![tactic(auto)]
 
-ghost use Rattle.std.specs.Prelude.{◌≡◌, ℕ, true, false, List, Option, Some, is_some, slice_get, take};
+ghost use Rattle.std.specs.Prelude.{◌≡◌, ℕ, true, List, Option, Some, is_some, slice_get, take};
 ghost use Rattle.wdf_base.specs.Meaning.{Meaning};
 ghost use Rattle.wdf_base.specs.Resolved.{IsResolved};
 ghost use Rattle.wdf_base.specs.declared.plan.Plan.{Plan};

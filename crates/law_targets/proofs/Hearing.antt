@@ -19,7 +19,7 @@ use Rattle.wdf_base.specs.declared.value.Value.TheVariants.{Num}
 use Rattle.wdf_model.specs.State.{object_in}
 use Rattle.wdf_model.specs.agents.LowerTarget.{LowerTarget, handle_in_arg, stop_called, target_after, target_posted, told, told_any, told_one, with_sent}
 use Rattle.wdf_model.specs.declared.entries.SentRequest.{SentRequest}
-use Rattle.wdf_model.specs.rules.Faults.{arg_is}
+use Rattle.wdf_base.specs.Values.{arg_is}
 use Rattle.law_idle.specs.Idling.{time_step}
 use Rattle.law_targets.specs.Targets.{sent_to}
 use Rattle.law_targets.proofs.Kept.{kept_one, next}

@@ -17,7 +17,7 @@ use Rattle.wdf_base.specs.declared.value.Value.TheVariants.{Num, Obj, Stat}
 use Rattle.wdf_model.specs.State.{object_in}
 use Rattle.wdf_model.specs.agents.LowerTarget.{handle_in_arg}
 use Rattle.wdf_model.specs.declared.entries.SentRequest.{SentRequest}
-use Rattle.wdf_model.specs.rules.Faults.{arg_is}
+use Rattle.wdf_base.specs.Values.{arg_is}
 use Rattle.wdf_model.specs.Tables.{flag}
 use Rattle.wdf_model.proofs.Counts.{count_cons}
 use Rattle.wdf_model.proofs.Tests.{itself}

@@ -17,7 +17,7 @@ use Rattle.wdf_base.specs.declared.value.Value.TheVariants.{Num}
 use Rattle.wdf_model.specs.Plans.{target_of, target_of_agent}
 use Rattle.wdf_model.specs.State.{object_in}
 use Rattle.wdf_model.specs.agents.LowerTarget.{LowerTarget, handle_in_arg, target_after, target_at, target_due}
-use Rattle.wdf_model.specs.rules.Faults.{arg_is}
+use Rattle.wdf_base.specs.Values.{arg_is}
 use Rattle.law_idle.specs.Idling.{time_after}
 use Rattle.law_stack.specs.Words.{stops_all}
 

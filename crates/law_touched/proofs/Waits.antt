@@ -12,7 +12,7 @@ use Rattle.wdf_model.specs.parts.Locks.{is_free_lock, object_lock}
 use Rattle.wdf_model.specs.parts.Queues.{held_count, is_empty_queue}
 use Rattle.wdf_model.specs.parts.Deferred.WorkItems.{is_work_queued}
 use Rattle.wdf_model.specs.rules.Calls.{is_met, is_met_then, nothing_returns, purge_returns}
-use Rattle.wdf_model.specs.rules.Faults.{arg_is}
+use Rattle.wdf_base.specs.Values.{arg_is}
 use Rattle.wdf_model.specs.rules.Steps.{wait_is_over, waits_on}
 
 module _ {A : Type 0} (S T : State A) (locks : S.locks ≡ T.locks) (requests : S.requests ≡ T.requests) (queues : S.queues ≡ T.queues) (items : S.work_items ≡ T.work_items)

@@ -15,7 +15,7 @@ use Rattle.wdf_base.specs.Plan.{declared_of}
 use Rattle.wdf_model.specs.declared.entries.Node.{Node}
 use Rattle.wdf_model.specs.Tables.{entry}
 use Rattle.wdf_model.specs.Plans.{as_device}
-use Rattle.wdf_model.specs.parts.Tree.{Tree, declared_as, declared_node, gone, kind_of, life_of, opening_tree, parent_of}
+use Rattle.wdf_model.specs.parts.Tree.{Tree, declared_as, declared_node, declared_parent, gone, kind_of, life_of, opening_tree, parent_of}
 use Rattle.wdf_model.specs.State.{State, declared_in}
 use Rattle.wdf_model.specs.rules.Steps.{after, may}
 use Rattle.wdf_model.specs.rules.Ready.{IsRunOf, ready, state_after}
@@ -27,7 +27,7 @@ use Rattle.wdf_model.proofs.Tests.{itself}
 use Rattle.law_machine_lives.proofs.SoundEvents.{same_declared}
 use Rattle.wdf_laws.specs.declared.sign.Told.{Told}
 use Rattle.wdf_laws.specs.Events.{told}
-use Rattle.wdf_laws.specs.Family.{declared_parent, first_told, is_told, tells_of, told_class}
+use Rattle.wdf_laws.specs.Family.{first_told, is_told, tells_of, told_class}
 use Rattle.wdf_laws.specs.Family as law
 use Rattle.law_trace_families.specs.Family.{ClassesAgree, FamilyAgrees, is_known}
 use Rattle.wdf_base.proofs.WordLaws.{find_passes}

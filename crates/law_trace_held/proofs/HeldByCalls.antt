@@ -37,7 +37,6 @@ use Rattle.wdf_model.specs.State.{State, object_in, queue_delivers}
 use Rattle.wdf_model.specs.Ids.{cpu_of, object_id}
 use Rattle.wdf_model.specs.declared.deed.Deed.TheVariants.{Acknowledge, CompleteRequest, EnqueueDpc, EnqueueWork, Forward, GiveBack, MarkRequest, RegisterQueue, Requeue, SendRequest, StartTimer}
 use Rattle.wdf_model.specs.rules.Deeds.{do_deed, do_deeds, give_up}
-use Rattle.wdf_model.specs.rules.Faults.{arg_is}
 use Rattle.wdf_model.specs.rules.Calls.{Outcome, class_in, create_outcome, creation, forwards_nowhere, may_send, new_handle, number, number_in, origin_or_none, outcome, refused, requeue_outcome, retrieve_front, success}
 use Rattle.wdf_model.specs.rules.Steps.{view_of}
 use Rattle.wdf_model.proofs.Tests.{both, itself, right_fails}
@@ -45,7 +44,7 @@ use Rattle.law_machine_base.proofs.Fits.{wrong_kind_of_first}
 use Rattle.law_machine_base.proofs.FitsOfCalls.{Clean}
 use Rattle.law_machine_base.proofs.KeptByDeeds.{KeptIn}
 use Rattle.law_machine_counts.proofs.Holding.{HoldsIn}
-use Rattle.wdf_laws.specs.Events.{argument_object, given_up, is_one, is_success, pair_of, taken, value_object, where_so}
+use Rattle.wdf_laws.specs.Events.{argument_object, given_up, pair_of, taken, value_object, where_so}
 use Rattle.law_trace_requests.proofs.Cancels.{named}
 use Rattle.law_trace_requests.proofs.Entries.{forward_by}
 use Rattle.law_machine_lives.proofs.Readers.{power_of}
@@ -54,6 +53,7 @@ use Rattle.law_trace_held.proofs.Holdings.{NotesChange, NotesStay, acknowledged_
 use Rattle.law_trace_requests.proofs.Marks.{front_queued}
 use Rattle.law_trace_held.proofs.HeldAsTold.{HeldAsTold, give_step, silent_step, take_step, unheld_noted}
 use Rattle.law_machine_counts.proofs.HeldByDeeds.{queued_unheld}
+use Rattle.wdf_base.specs.Values.{arg_is, is_one, is_success}
 
 -- ---- calls that leave the notes
 

@@ -35,7 +35,7 @@ use Rattle.wdf_model.specs.Ids.{frame_id, irql_of, object_id}
 use Rattle.wdf_model.specs.declared.deed.Deed.{Deed}
 use Rattle.wdf_model.specs.declared.deed.Deed.TheVariants.{PushFrame, Acknowledge, AdvancePower, AskStop, GiveBack, Requeue, Resume}
 use Rattle.wdf_model.specs.rules.Deeds.{do_deed, do_deeds}
-use Rattle.wdf_model.specs.rules.Faults.{arg_is}
+use Rattle.wdf_base.specs.Values.{arg_is}
 use Rattle.wdf_model.specs.rules.Calls.{forwards_nowhere, may_send, origin_or_none, outcome, refused, retrieve_front, success}
 use Rattle.wdf_model.specs.rules.Starts.{effect, effect_for, new_frame, next_number, take_if_any}
 use Rattle.wdf_model.specs.rules.Steps.{after, deeds, may, view_of}

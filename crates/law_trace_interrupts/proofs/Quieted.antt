@@ -16,13 +16,14 @@ use Rattle.wdf_base.specs.Same.{same_callback}
 use Rattle.wdf_model.specs.declared.enums.Phase.{Phase}
 use Rattle.wdf_model.specs.declared.enums.Phase.TheVariants.{Sleeping}
 use Rattle.wdf_model.specs.Tables.{flag}
-use Rattle.wdf_model.specs.parts.Pnp.{DeviceSteps, InterruptSteps, Sequence, end_steps, interrupt_steps, is_success, left_after, left_after_failure, steps_for}
+use Rattle.wdf_model.specs.parts.Pnp.{DeviceSteps, InterruptSteps, Sequence, end_steps, interrupt_steps, left_after, left_after_failure, steps_for}
 use Rattle.wdf_model.proofs.Counts.{count_cons}
 use Rattle.wdf_model.proofs.Tests.{both_left, both_right, not_true}
 use Rattle.law_trace_power.specs.Steps.{is_for}
 use Rattle.law_trace_power.proofs.Begun.{asked}
 use Rattle.law_trace_power.proofs.Lists.{Suits}
 use Rattle.law_trace_power.proofs.Standings.{Standing, Watch, could_fail, begins, may_begin, may_take, next, rests_in, safe}
+use Rattle.wdf_base.specs.Values.{is_success}
 
 abbrev pub quiet_by : Stage → Bool → Bool
 quiet_by stage.Quiet rest = true

@@ -15,7 +15,8 @@ use Rattle.wdf_base.specs.declared.event.Post.TheVariants as post
 use Rattle.wdf_base.specs.Same.{same_call_kind}
 use Rattle.wdf_model.specs.State.{object_in}
 use Rattle.wdf_model.specs.rules.Ready.{IsRunOf, ready}
-use Rattle.law_machine_base.specs.OverRuns.{CompletedOnce, arrives, completes, is_answer, is_arrival_post}
+use Rattle.law_machine_base.specs.OverRuns.{CompletedOnce, arrives, completes, is_answer}
+use Rattle.wdf_base.specs.Posts.{is_request}
 use Rattle.wdf_model.proofs.Runs.{run_front, take_next}
 use Rattle.law_machine_base.proofs.LawsOverRuns.{completed_once}
 use Rattle.wdf_model.proofs.Tests.{itself}
@@ -33,7 +34,7 @@ answered : (r : ℕ) (answer : Option Handle) → is_answer r answer ≡ true �
 answered r None h = h
 answered r (Some x) h = h
 
-arrival_shows_post : (r : ℕ) (p : Post) (answer : Option Handle) → (is_arrival_post p && is_answer r answer) ≡ true → is_id r (where_so (is_there (brought_to p)) (id_in answer)) ≡ true
+arrival_shows_post : (r : ℕ) (p : Post) (answer : Option Handle) → (is_request p && is_answer r answer) ≡ true → is_id r (where_so (is_there (brought_to p)) (id_in answer)) ≡ true
 arrival_shows_post r (post.Read device length) answer h = answered r answer h
 arrival_shows_post r (post.Write device length) answer h = answered r answer h
 arrival_shows_post r (post.Control device code length) answer h = answered r answer h

@@ -5,7 +5,6 @@ use Rattle.wdf_base.specs.declared.ids.Cpu.{Cpu}
 use Rattle.wdf_base.specs.declared.ids.Handle.{Handle}
 use Rattle.wdf_base.specs.declared.plan.Plan.{Plan}
 use Rattle.wdf_base.specs.declared.value.Value.{Value}
-use Rattle.wdf_base.specs.declared.value.Value.TheVariants.{Num}
 use Rattle.wdf_base.specs.declared.call.Callback.{Callback}
 use Rattle.wdf_base.specs.declared.call.Callback.TheVariants as callback
 use Rattle.wdf_base.specs.declared.event.Ask.{Ask}
@@ -30,13 +29,13 @@ use Rattle.wdf_model.proofs.Counts.{equal, not_equal, one_or_two}
 use Rattle.wdf_laws.specs.declared.sign.Sign.TheVariants as sign
 use Rattle.wdf_laws.specs.Signs.{shows}
 use Rattle.wdf_laws.specs.Events.{id_in, is_id, where_so}
-use Rattle.wdf_laws.specs.Events.{is_success as laws_success}
 use Rattle.law_trace_power.proofs.Standings.{Standing, may_pass}
 use Rattle.wdf_base.specs.declared.declared.InterruptInfo.{InterruptInfo}
 use Rattle.law_trace_power.specs.Steps.{is_for}
 use Rattle.law_trace_power.proofs.Holding.{EndShows, Holds, Silent, asks_for, begins_to, ends_to, nothing, unwatched, watch}
 use Rattle.law_trace_power.proofs.Passing.{enabling, may_pass_next, passes_to, power_by}
 use Rattle.law_machine_counts.proofs.Sames.{option_handle_is, stage_decides}
+use Rattle.wdf_base.specs.Values.{is_success}
 
 -- what holds of each device, with each number for an interrupt
 abbrev pub AllHold : Plan → Pnp → List DevicePower → Interrupts → List Event → Type 0
@@ -92,23 +91,18 @@ stage_elsewhere device stage.QueuesUp j d h = (refl, h, refl, refl)
 stage_elsewhere device stage.QueuesDown j d h = (refl, refl, h, refl)
 stage_elsewhere device _ j d h = (refl, refl, refl, refl)
 
--- the same test of two modules
-pub success_same : (v : Value) → pnp.is_success v ≡ laws_success v
-success_same (Num n) = refl
-success_same _ = refl
-
 pub end_elsewhere : (cpu : Cpu) (c : Callback) (o : Handle) (v : Value) (d i : ℕ) (b : Bool) → same_callback c callback.EvtDeviceD0Entry ≡ b → (b ≡ true → (o.id.0 == d) ≡ false) → Silent d i (event.End cpu c o v)
 end_elsewhere cpu c o v d i false e h = record { entered = rw e refl; exit = refl; enabled = refl; disabled = refl; up = refl; down = refl }
-end_elsewhere cpu c o v d i true e h = record { entered = rw e (nowhere (not (laws_success v))); exit = refl; enabled = refl; disabled = refl; up = refl; down = refl }
+end_elsewhere cpu c o v d i true e h = record { entered = rw e (nowhere (not (is_success v))); exit = refl; enabled = refl; disabled = refl; up = refl; down = refl }
   where
     nowhere : (b : Bool) → (is_id d (where_so b (Some o.id.0)) || false) ≡ false
     nowhere true = rw (h refl) refl
     nowhere false = refl
 
-end_shows : (plan : Plan) (es : List Event) (cpu : Cpu) (c : Callback) (o : Handle) (v : Value) (d i : ℕ) → (same_callback c callback.EvtDeviceD0Entry ≡ true → o.id.0 ≡ d) → EndShows plan es (event.End cpu c o v) d i c (pnp.is_success v)
+end_shows : (plan : Plan) (es : List Event) (cpu : Cpu) (c : Callback) (o : Handle) (v : Value) (d i : ℕ) → (same_callback c callback.EvtDeviceD0Entry ≡ true → o.id.0 ≡ d) → EndShows plan es (event.End cpu c o v) d i c (is_success v)
 end_shows plan es cpu c o v d i on = record {
   quiet = λ e. rw e refl;
-  enters = λ e well. rw (e, sym (success_same v) ∙ well) (equal o.id.0 d (on e));
+  enters = λ e well. rw (e, well) (equal o.id.0 d (on e));
   exit = refl;
   enabled = refl;
   disabled = refl;

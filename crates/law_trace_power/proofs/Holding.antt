@@ -12,7 +12,7 @@ use Rattle.wdf_base.specs.declared.event.Step.TheVariants as step
 use Rattle.wdf_base.specs.Same.{same_callback}
 use Rattle.wdf_model.specs.Plans.{declares, device_of, interrupt_of, is_interrupt_of}
 use Rattle.wdf_model.specs.declared.entries.DevicePower.{DevicePower}
-use Rattle.wdf_model.specs.parts.Pnp.{Sequence, is_success, left_after, left_after_failure, steps_for}
+use Rattle.wdf_model.specs.parts.Pnp.{Sequence, left_after, left_after_failure, steps_for}
 use Rattle.wdf_model.proofs.Tests.{both, both_left, both_right, first, not_true, second}
 use Rattle.wdf_laws.specs.declared.sign.Sign.TheVariants as sign
 use Rattle.wdf_laws.specs.Signs.{shows}
@@ -22,6 +22,7 @@ use Rattle.law_trace_power.proofs.Standings.{Standing, Watch, begins, could_fail
 use Rattle.law_trace_power.proofs.Lists.{Suits, not_either}
 use Rattle.law_trace_power.proofs.Begun.{asked, failed}
 use Rattle.law_trace_power.proofs.Tellings.{enabled_stays, entered_comes, entered_stays, power_stays, powered, stays}
+use Rattle.wdf_base.specs.Values.{is_success}
 
 abbrev pub watch : Plan → ℕ → ℕ → Watch
 watch plan d i = record {

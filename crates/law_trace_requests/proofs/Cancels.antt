@@ -42,13 +42,14 @@ use Rattle.law_machine_base.proofs.FitsOfCalls.{Clean, outcome_fits}
 use Rattle.law_machine_base.proofs.KeptByDeeds.{KeptIn, owned_undone}
 use Rattle.wdf_laws.specs.declared.sign.Sign.{Sign}
 use Rattle.wdf_laws.specs.declared.sign.Sign.TheVariants as sign
-use Rattle.wdf_laws.specs.Events.{argument_object, is_id, is_success, is_undoing, where_so}
+use Rattle.wdf_laws.specs.Events.{argument_object, is_id, is_undoing, where_so}
 use Rattle.wdf_laws.specs.Signs.{shows}
 use Rattle.wdf_laws.specs.Words.{ever, stands, stands_step}
 use Rattle.law_machine_lives.proofs.ReasonsOfCalls.{call_of}
 use Rattle.law_trace_requests.proofs.Happened.{ever_next}
 use Rattle.law_trace_requests.proofs.Marks.{GoesAt, GoesOf, StillGoes, is_armed, is_told, one_at, others_at}
 use Rattle.law_trace_requests.proofs.Gives.{Gives, each_gives}
+use Rattle.wdf_base.specs.Values.{is_success}
 
 -- ---- words
 

@@ -38,7 +38,6 @@ use Rattle.wdf_model.specs.State.{State, object_in}
 use Rattle.wdf_model.specs.Ids.{object_id}
 use Rattle.wdf_model.specs.declared.deed.Deed.TheVariants.{Acknowledge, Arrive, CompleteRequest, CountArrival, Forward, GiveBack, MarkRequest, Requeue, Withdraw}
 use Rattle.wdf_model.specs.rules.Deeds.{arrive_at, do_deed, do_deeds, give_up}
-use Rattle.wdf_model.specs.rules.Faults.{arg_is}
 use Rattle.wdf_model.specs.rules.Calls.{Outcome, forwards_nowhere, origin_or_none, outcome, refused, requeue_outcome, success}
 use Rattle.wdf_model.specs.rules.Posts.{arrival_info, arrival_place, arriving, cancel_at, cancel_deeds, cancel_reaches, due_of, post_answer, post_fits}
 use Rattle.wdf_model.specs.rules.Steps.{after, deeds, may, view_of}
@@ -53,7 +52,7 @@ use Rattle.law_machine_base.proofs.OwnEvents.{IsDid, did_tells, waiting_tells}
 use Rattle.law_machine_base.proofs.KeptByDeeds.{KeptIn, owned_of}
 use Rattle.law_machine_base.proofs.KeptTargets.{nowhere_yet}
 use Rattle.wdf_laws.specs.declared.sign.Sign.TheVariants as sign
-use Rattle.wdf_laws.specs.Events.{argument_object, headed, id_in, is_id, is_success, tailed, where_so}
+use Rattle.wdf_laws.specs.Events.{argument_object, headed, id_in, is_id, tailed, where_so}
 use Rattle.wdf_laws.specs.Signs.{shows}
 use Rattle.law_machine_base.proofs.KeptMoves.{queue_elsewhere, queue_here}
 use Rattle.law_machine_lives.proofs.ReasonsOfCalls.{call_of}
@@ -63,6 +62,7 @@ use Rattle.law_trace_requests.proofs.Lines.{LinesShrink, Shrinks, all_such, deed
 use Rattle.law_trace_requests.proofs.Gives.{given_first}
 use Rattle.law_trace_requests.proofs.Cancels.{named, where_told}
 use Rattle.law_trace_requests.proofs.CancelsOverRuns.{waits_quietly}
+use Rattle.wdf_base.specs.Values.{arg_is, is_success}
 
 -- a line shrinks, or the request that the event gives enters it at its head or at its tail
 abbrev pub LineStep : Event → List ℕ → List ℕ → Type 0

@@ -23,17 +23,17 @@ use Rattle.wdf_model.specs.Ids.{object_id}
 use Rattle.wdf_model.specs.declared.deed.Deed.{Deed}
 use Rattle.wdf_model.specs.declared.deed.Deed.TheVariants.{Acknowledge, CompleteRequest, Forward, GiveBack, Requeue, SendRequest, UnmarkRequest}
 use Rattle.wdf_model.specs.rules.Deeds.{do_deed, do_deeds, give_up, give_up_if, queued}
-use Rattle.wdf_model.specs.rules.Faults.{arg_is}
 use Rattle.wdf_model.specs.rules.Calls.{Outcome, acknowledge_outcome, forward_outcome, forwards_nowhere, may_send, number, origin_or_none, outcome, refused, requeue_outcome, send_outcome, success}
 use Rattle.law_machine_base.specs.Fits.{all_fit, fits, is_given}
 use Rattle.wdf_model.proofs.Tests.{both_left, not_false}
 use Rattle.wdf_model.proofs.Maps.{entry_put_same}
 use Rattle.law_machine_base.proofs.FitsOfCalls.{Clean}
 use Rattle.law_machine_base.proofs.KeptByDeeds.{KeptIn, owned_of, owned_undone}
-use Rattle.wdf_laws.specs.Events.{is_one, is_success, is_undoing}
+use Rattle.wdf_laws.specs.Events.{is_undoing}
 use Rattle.law_machine_lives.proofs.ReasonsOfCalls.{call_of}
 use Rattle.law_trace_requests.proofs.Quiet.{outcome_none}
 use Rattle.law_trace_requests.proofs.Marks.{StillGoes, deed_still, deeds_still, completed_requests, enters_at_head, enters_at_tail, gives_back, is_armed, moves, withdrawn_unmarked}
+use Rattle.wdf_base.specs.Values.{arg_is, is_one, is_success}
 
 -- What is done keeps how the marks go with what the events say; and where the answer passes a test, this request has no
 -- mark after it.

@@ -25,7 +25,8 @@ use Rattle.wdf_model.specs.parts.Cpus.{frame_of}
 use Rattle.wdf_model.specs.parts.Requests.{origin_of}
 use Rattle.wdf_model.specs.parts.Power.{advance_stage, holding_of}
 use Rattle.wdf_model.specs.State.{State, object_in}
-use Rattle.wdf_model.specs.rules.Faults.{View, arg_is, is_handle_of, is_stop_of}
+use Rattle.wdf_model.specs.rules.Faults.{View, is_handle_of, is_stop_of}
+use Rattle.wdf_base.specs.Values.{arg_is}
 use Rattle.wdf_model.specs.rules.Steps.{may, view_of}
 use Rattle.law_machine_base.proofs.OwnEvents.{IsDid, did_tells}
 use Rattle.wdf_model.proofs.Tests.{both_left, both_right, itself}

@@ -17,7 +17,7 @@ use Rattle.wdf_model.specs.declared.entries.DevicePower.{DevicePower}
 use Rattle.wdf_model.specs.Tables.{entry}
 use Rattle.wdf_model.specs.Plans.{queue_of}
 use Rattle.wdf_model.specs.parts.Power.{Power, advance_stage, no_device_power}
-use Rattle.wdf_model.specs.parts.Pnp.{Pnp, Sequence, is_success, left_after, left_after_failure, no_sequence, sequence_of, steps_for, taken_step}
+use Rattle.wdf_model.specs.parts.Pnp.{Pnp, Sequence, left_after, left_after_failure, no_sequence, sequence_of, steps_for, taken_step}
 use Rattle.wdf_model.specs.parts.Pnp as pnp
 use Rattle.wdf_model.specs.State.{State}
 use Rattle.wdf_model.proofs.Maps.{entry_put_other, entry_put_same}
@@ -35,6 +35,7 @@ use Rattle.law_trace_settled.proofs.Along.{Way, asked, failed, fits, may_begin, 
 use Rattle.law_trace_settled.proofs.Moves.{Asked, Begun, Ended, Moved, Passed, Unmoved}
 use Rattle.law_machine_counts.proofs.StepMoves.{passed_running}
 use Rattle.law_trace_power.proofs.Sequences.{passed_left}
+use Rattle.wdf_base.specs.Values.{is_success}
 
 -- ---- words
 

@@ -29,7 +29,7 @@ use Rattle.wdf_model.specs.parts.Pnp.{Sequence, is_running_step, next_step, no_s
 use Rattle.wdf_model.specs.State.{State, declared_in, is_proper, is_with_driver}
 use Rattle.wdf_model.specs.declared.deed.Deed.TheVariants.{PassTick}
 use Rattle.wdf_model.specs.rules.Deeds.{counted, do_deeds}
-use Rattle.wdf_model.specs.rules.Faults.{arg_is}
+use Rattle.wdf_base.specs.Values.{arg_is}
 use Rattle.wdf_model.specs.rules.Starts.{interrupt_of_step, may_start, step_of, step_ready}
 use Rattle.wdf_model.specs.rules.Steps.{after, deeds, is_cpu, is_proper_if_any, may}
 use Rattle.wdf_model.specs.rules.Ready.{IsRunOf, ready, state_after}

@@ -1,5 +1,5 @@
 //! Members around the ends of words and blocks.
-ghost use Rattle.std.specs.Prelude.{◌≡◌, ◌≤◌, length};
+ghost use Rattle.std.specs.Prelude.{◌≤◌, length};
 
 use std::test::Fail;
 use wdf_sets::IdSet;

@@ -4,7 +4,6 @@ use crate::values::*;
 use std::test::Fail;
 use wdf_base::{CallKind, Change, Fault, Intent, Kind, LockRef, ObjectId, Status, Value};
 use wdf_model::object_in;
-use wdf_rules::is_number;
 
 static DEREFERENCE: [Doing; 1] = [(Kind::General, CallKind::WdfObjectDereference, &[IT])];
 
@@ -179,9 +178,9 @@ static WHOLE: [Doing; 7] = [
 fn broken_arguments_are_script_errors(rt: HostRuntime) -> Result<(), Fail> {
     check(&rt, &BROKEN, &[], Some(Fault::ScriptError));
     check(&rt, &WHOLE, &[], None);
-    assert!(rt; is_number(ONE, 1));
-    assert!(rt; !is_number(ONE, 0));
-    assert!(rt; !is_number(SUCCESS, 0));
+    assert!(rt; ONE.is_number(1));
+    assert!(rt; !ONE.is_number(0));
+    assert!(rt; !SUCCESS.is_number(0));
     assert_eq!(rt; object_in(IT), OBJECT.id);
     assert_eq!(rt; object_in(ONE), ObjectId(0));
     Ok(())

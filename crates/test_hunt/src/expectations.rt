@@ -1,5 +1,5 @@
 //! What a trace has to do with what is expected of it: what is read of comments, and the kind of a run.
-ghost use Rattle.std.specs.Prelude.{◌≤◌, length};
+ghost use Rattle.std.specs.Prelude.{length};
 ghost use Rattle.wdf_parse.specs.declared.parsing.TheConstants.{TEXT_LIMIT};
 
 use std::alloc::Global;

@@ -1,5 +1,4 @@
 //! Scenes that words move, worked out by hand.
-ghost use Rattle.std.specs.Prelude.{◌≤◌, length};
 ghost use Rattle.wdf_parse.specs.declared.parsing.TheConstants.{TEXT_LIMIT};
 
 use std::alloc::Global;

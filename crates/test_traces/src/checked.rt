@@ -1,10 +1,9 @@
 //! The events of worked runs, for the checker.
+use crate::worked::plan_of;
 use check_trace::check;
 use std::alloc::Global;
 use test_worked_texts::Worked;
 use wdf_base::{Event, Memory, Plan};
-use wdf_parse::{TEXT_LIMIT, parse};
-use wdf_plan::resolve;
 use wdf_trace::read_line;
 
 /// Which events of a run are given to the checker.
@@ -18,17 +17,6 @@ pub enum Given {
 
 /// What the checker finds: the number of the first broken law, and the place of the event that breaks it.
 pub type Found = Option<(u8, usize)>;
-
-/// The plan of a text that has one.
-fn plan_of(alloc: Global, text: &str) -> Option<Plan> {
-    if text.len() > TEXT_LIMIT {
-        return None;
-    }
-    match parse(alloc, text.as_bytes()) {
-        Ok(scene) => resolve(alloc, &scene).ok(),
-        Err(_) => None,
-    }
-}
 
 /// Adds the event of a line; whether the line is one of an event.
 fn add(events: &mut Vec<Event>, plan: &Plan, line: &[u8]) -> Result<bool, Memory> {

@@ -12,4 +12,5 @@ pub mod Words
 pub mod Places
 pub mod Lives
 pub mod Stages
+pub mod Values
 pub mod Posts

@@ -1,3 +1,6 @@
+ghost use Rattle.std.specs.Prelude.{◌≡◌};
+ghost use Rattle.wdf_base.specs.Values as values;
+
 use crate::value::Value;
 
 /// An event callback of the driver.
@@ -93,6 +96,18 @@ pub enum CallKind {
 pub enum Arg {
     Val(Value),
     Class(u16),
+}
+
+impl Arg {
+    /// Whether an argument is this number; a class never is.
+    pub fn is_number(self, number: u64) -> bool
+        ensures { result ≡ values.arg_is self number }
+    {
+        match self {
+            Arg::Val(Value::Num(n)) => n == number,
+            _ => false,
+        }
+    }
 }
 
 /// A framework call with its first `count` arguments. Each argument beyond `count` is the number 0.

@@ -10,7 +10,7 @@
 //!   resolved plan agree in both.
 //! - **What is the plan's second reader of names?** `object_named` finds the declared object with a name's number.
 //!   Only tests call it.
-ghost use Rattle.std.specs.Prelude.{◌≡◌, ◌+◌, ◌<◌, ◌≤◌, ◌^◌, length, Some, IfSome, position, slice_get, option_map};
+ghost use Rattle.std.specs.Prelude.{◌≡◌, ◌+◌, ◌<◌, ◌≤◌, length, Some, IfSome, position, slice_get, option_map};
 ghost use Rattle.wdf_base.specs.Plan.{declared_of, posts_of, statements_of, script_of, agent_of, is_script_of, object_named};
 ghost use Rattle.wdf_base.specs.Kinds.{has_name};
 

@@ -1,4 +1,8 @@
+ghost use Rattle.std.specs.Prelude.{◌≡◌};
+ghost use Rattle.wdf_base.specs.Values as values;
+
 use crate::ids::Handle;
+use crate::same::same_status;
 
 /// How a call, a callback or a request ended. A status has a name here, and no NTSTATUS number.
 #[derive(Clone, Copy, Debug, PartialEq, Eq, Hash)]
@@ -24,4 +28,26 @@ pub enum Value {
     Obj(Handle),
     /// A status.
     Stat(Status),
+}
+
+impl Value {
+    /// Whether a callback ended with SUCCESS, or a call's answer is SUCCESS.
+    pub fn is_success(self) -> bool
+        ensures { result ≡ values.is_success self }
+    {
+        match self {
+            Value::Stat(status) => same_status(status, Status::Success),
+            _ => false,
+        }
+    }
+
+    /// Whether an answer is the number 1.
+    pub fn is_one(self) -> bool
+        ensures { result ≡ values.is_one self }
+    {
+        match self {
+            Value::Num(number) => number == 1,
+            _ => false,
+        }
+    }
 }

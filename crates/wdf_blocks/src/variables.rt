@@ -1,5 +1,5 @@
 //! The variables of a callback, by their first assignments.
-ghost use Rattle.std.specs.Prelude.{◌≡◌, [], IfOk, OnOk, OnErr, ◌+◌, ◌<◌, ◌^◌, length, drop};
+ghost use Rattle.std.specs.Prelude.{◌≡◌, [], IfOk, OnOk, ◌+◌, ◌<◌, ◌^◌, length, drop};
 ghost use Rattle.wdf_blocks.specs.Variables as spec;
 
 use crate::block::{depth_after, ends_block};

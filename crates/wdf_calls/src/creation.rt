@@ -1,8 +1,6 @@
 //! Objects: how they are made, and their context cells.
 ghost use Rattle.std.specs.Prelude.{◌≡◌};
-ghost use Rattle.wdf_base.specs.Lives.{is_live};
 ghost use Rattle.wdf_model.specs.Plans as plans;
-ghost use Rattle.wdf_model.specs.parts.Tree as tree;
 ghost use Rattle.wdf_model.specs.rules.Calls as calls;
 
 use crate::answers::{Outcome, answer, refused};
@@ -10,13 +8,6 @@ use wdf_base::{Agent, Handle, Kind, ObjectId, Status, Value};
 use wdf_model::Deed;
 use wdf_parts::{Deeds, Parts};
 use wdf_plan_index::IndexedPlan;
-
-/// Whether an object is live: its deletion wasn't asked. (KMDF)
-pub(crate) fn is_live<A: Agent>(parts: &Parts<A>, o: ObjectId) -> bool
-    ensures { result ≡ is_live (tree.life_of parts.now.tree o.0) }
-{
-    parts.tree().life(o).is_live()
-}
 
 /// The object that is made next, of a class.
 fn new_handle<A: Agent>(plan: &IndexedPlan, parts: &Parts<A>, class: u16) -> Handle
@@ -53,7 +44,7 @@ pub(crate) fn create_outcome<A: Agent>(
     ensures answer { result.answer ≡ (calls.create_outcome plan.now parts.now class parent.0).answer }
     ensures deeds { result.deeds ≡ (calls.create_outcome plan.now parts.now class parent.0).deeds }
 {
-    if !is_live(parts, parent) {
+    if !parts.is_live(parent) {
         refused(Status::DeletePending)
     } else if parts.tree().is_full() {
         refused(Status::InsufficientResources)

@@ -6,7 +6,6 @@ ghost use Rattle.wdf_model.specs.parts.Deferred.Timers as timers;
 ghost use Rattle.wdf_model.specs.rules.Calls as calls;
 
 use crate::answers::{Outcome, does, flag, number, success};
-use crate::creation::is_live;
 use wdf_base::{Agent, Callback, Cpu, ObjectId};
 use wdf_model::Deed;
 use wdf_parts::{Deeds, Parts};
@@ -38,7 +37,7 @@ pub(crate) fn dpc_outcome<A: Agent>(parts: &Parts<A>, cpu: Cpu, object: ObjectId
     ensures answer { result.answer ≡ (calls.dpc_outcome parts.now cpu.0 object.0).answer }
     ensures deeds { result.deeds ≡ (calls.dpc_outcome parts.now cpu.0 object.0).deeds }
 {
-    if is_live(parts, object) && !parts.dpcs().is_dpc_queued(object) {
+    if parts.is_live(object) && !parts.dpcs().is_dpc_queued(object) {
         number(1, Deeds::one(Deed::EnqueueDpc { cpu, object }))
     } else {
         number(0, Deeds::none())
@@ -50,7 +49,7 @@ pub(crate) fn timer_outcome<A: Agent>(parts: &Parts<A>, object: ObjectId, ticks:
     ensures answer { result.answer ≡ (calls.timer_outcome parts.now object.0 ticks).answer }
     ensures deeds { result.deeds ≡ (calls.timer_outcome parts.now object.0 ticks).deeds }
 {
-    if is_live(parts, object) {
+    if parts.is_live(object) {
         let was_queued = flag(parts.timers().is_timer_queued(object));
         number(was_queued, Deeds::one(Deed::StartTimer { object, ticks }))
     } else {
@@ -63,7 +62,7 @@ pub(crate) fn work_outcome<A: Agent>(parts: &Parts<A>, object: ObjectId) -> Outc
     ensures answer { result.answer ≡ (calls.work_outcome parts.now object.0).answer }
     ensures deeds { result.deeds ≡ (calls.work_outcome parts.now object.0).deeds }
 {
-    if is_live(parts, object) {
+    if parts.is_live(object) {
         does(Deed::EnqueueWork { object })
     } else {
         success(Deeds::none())

@@ -7,7 +7,6 @@ use wdf_base::{Agent, Arg, Callback, ObjectId, Status, Value};
 use wdf_model::{Deed, Mode};
 use wdf_parts::{Deeds, Parts};
 use wdf_plan_index::IndexedPlan;
-use wdf_rules::is_number;
 
 /// The front of a queue, if there is one, is presented to the caller. (KMDF)
 fn retrieve_front<A: Agent>(
@@ -54,7 +53,7 @@ pub(crate) fn notify_outcome(plan: &IndexedPlan, queue: ObjectId, context: Arg) 
     ensures deeds { result.deeds ≡ (calls.notify_outcome plan.now queue.0 context).deeds }
 {
     if plan.is_manual_queue(queue) && plan.declares(Callback::EvtIoQueueState, queue) {
-        let on = !is_number(context, 0);
+        let on = !context.is_number(0);
         does(Deed::RegisterQueue { queue, on })
     } else {
         refused(Status::InvalidDeviceRequest)

@@ -7,12 +7,10 @@ ghost use Rattle.wdf_model.specs.parts.Targets as targets;
 ghost use Rattle.wdf_model.specs.rules.Calls as calls;
 
 use crate::answers::{Outcome, answer, does, flag, number, refused};
-use crate::creation::is_live;
 use wdf_base::{Agent, Arg, Callback, Mark, ObjectId, Status, Value};
 use wdf_model::{Deed, Mode};
 use wdf_parts::{Deeds, Parts};
 use wdf_plan_index::IndexedPlan;
-use wdf_rules::is_number;
 
 /// The queue from which a request last became Owned; the id 0 for none.
 fn origin_or_none<A: Agent>(parts: &Parts<A>, r: ObjectId) -> ObjectId
@@ -163,7 +161,7 @@ pub(crate) fn acknowledge_outcome<A: Agent>(
     ensures answer { result.answer ≡ (calls.acknowledge_outcome parts.now request.0 requeue).answer }
     ensures deeds { result.deeds ≡ (calls.acknowledge_outcome parts.now request.0 requeue).deeds }
 {
-    if is_number(requeue, 0) {
+    if requeue.is_number(0) {
         does(Deed::Acknowledge { request })
     } else {
         requeue_to_origin(parts, request)
@@ -175,7 +173,7 @@ pub(crate) fn acknowledge_outcome<A: Agent>(
 fn may_send<A: Agent>(parts: &Parts<A>, r: ObjectId, t: ObjectId) -> bool
     ensures { result ≡ calls.may_send parts.now r.0 t.0 }
 {
-    is_live(parts, t) && parts.targets().takes_more(t) && !is_cancelled(parts, r)
+    parts.is_live(t) && parts.targets().takes_more(t) && !is_cancelled(parts, r)
 }
 
 /// A request is sent to a target, or isn't. (KMDF; own: when it isn't)

@@ -19,7 +19,6 @@ use wdf_base::{Agent, Call, CallKind, Cpu, FrameId};
 use wdf_model::{Deed, Mode, object_in};
 use wdf_parts::{Deeds, Parts};
 use wdf_plan_index::IndexedPlan;
-use wdf_rules::is_number;
 
 /// What a call of a frame on a processor answers and does; of a call that waits, its first part.
 pub fn outcome<A: Agent>(
@@ -70,7 +69,7 @@ pub fn outcome<A: Agent>(
         CallKind::WdfRequestRequeue => requeue_to_origin(parts, object),
         CallKind::WdfRequestForwardToIoQueue => forward_outcome(plan, parts, object, other),
         CallKind::WdfRequestStopAcknowledge => acknowledge_outcome(parts, object, call.b),
-        CallKind::WdfRequestSend => send_outcome(parts, object, other, is_number(call.c, 1)),
+        CallKind::WdfRequestSend => send_outcome(parts, object, other, call.c.is_number(1)),
         CallKind::WdfRequestCancelSentRequest => cancel_sent_outcome(parts, object),
         CallKind::WdfIoQueueStart => mode_outcome(object, Mode::Started),
         CallKind::WdfIoQueueStop => mode_outcome(object, Mode::Stopped),

@@ -12,7 +12,6 @@ use wdf_base::{Agent, Call, CallKind, FrameId, LockRef, ObjectId};
 use wdf_model::object_in;
 use wdf_parts::Parts;
 use wdf_plan_index::IndexedPlan;
-use wdf_rules::is_number;
 
 /// Whether nobody holds the lock of an object.
 fn is_lock_free<A: Agent>(parts: &Parts<A>, o: ObjectId) -> bool
@@ -51,11 +50,11 @@ pub fn is_met<A: Agent>(parts: &Parts<A>, call: &Call) -> bool
         CallKind::WdfIoQueuePurgeSynchronously => {
             nothing_held(parts, o) && nothing_returns(parts, o)
         }
-        CallKind::WdfDpcCancel => is_number(call.b, 0) || parts.cpus().nobody_on(o),
-        CallKind::WdfTimerStop => is_number(call.b, 0) || parts.cpus().nobody_on(o),
+        CallKind::WdfDpcCancel => call.b.is_number(0) || parts.cpus().nobody_on(o),
+        CallKind::WdfTimerStop => call.b.is_number(0) || parts.cpus().nobody_on(o),
         CallKind::WdfWorkItemFlush => !parts.work_items().is_work_queued(o)
             && parts.cpus().nobody_on(o),
-        CallKind::WdfIoTargetStop => is_number(call.b, 2) || parts.nothing_at(o),
+        CallKind::WdfIoTargetStop => call.b.is_number(2) || parts.nothing_at(o),
         _ => true,
     }
 }

@@ -1,8 +1,6 @@
 //! What is asked of frames and of requests.
 ghost use Rattle.std.specs.Prelude.{◌≡◌};
-ghost use Rattle.wdf_base.specs.Places.{is_done, is_returning_to, is_sent_to};
 ghost use Rattle.wdf_model.specs.State as state;
-ghost use Rattle.wdf_model.specs.parts.Requests as requests;
 ghost use Rattle.wdf_model.specs.rules.Starts as starts;
 ghost use Rattle.wdf_causes.specs.Asked as asked;
 

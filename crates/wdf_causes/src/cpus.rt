@@ -1,7 +1,6 @@
 //! Which processors are left for a start, and what is in their lists of DPCs.
 ghost use Rattle.std.specs.Prelude.{◌≡◌};
 ghost use Rattle.wdf_base.specs.declared.event.Stage.TheVariants as stage;
-ghost use Rattle.wdf_base.specs.Callbacks.{dpc_function};
 ghost use Rattle.wdf_model.specs.rules.Waits as waits;
 
 use wdf_base::{Agent, Cpu, Irql, LockRef, ObjectId};

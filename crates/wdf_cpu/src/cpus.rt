@@ -1,6 +1,6 @@
 ghost use Rattle.std.specs.Prelude.{◌≡◌, [], length, map, IfOk};
 ghost use Rattle.std.specs.Option.{option_map};
-ghost use Rattle.wdf_model.specs.parts.Cpus.{opening_cpus, no_frame};
+ghost use Rattle.wdf_model.specs.parts.Cpus.{opening_cpus};
 ghost use Rattle.wdf_cpu.specs.Fresh.{AreFresh, CountNothing};
 ghost use Rattle.wdf_cpu.specs.Keys.{object_key, wait_key};
 ghost use Rattle.wdf_cpu.specs.ParkedFor.{lock_in, lock_key, lock_of_call, takes_wait_lock};
@@ -17,7 +17,7 @@ use wdf_base::{
     VARIABLES, Value,
 };
 use wdf_maps::Rising;
-use wdf_model::{FRAMES, OBJECTS, Running, object_in};
+use wdf_model::{OBJECTS, Running, object_in};
 use wdf_tally::Tally;
 
 /// The handle of no object.

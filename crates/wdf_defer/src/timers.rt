@@ -1,4 +1,4 @@
-ghost use Rattle.std.specs.Prelude.{◌≡◌, ◌+◌, ◌<◌, ◌^◌, IfOk, IfSome, MatchOption, Some, filter, length, nat_le, option_map, slice_get, true};
+ghost use Rattle.std.specs.Prelude.{◌≡◌, ◌+◌, ◌<◌, ◌^◌, IfOk, IfSome, MatchOption, Some, filter, length, option_map, slice_get, true};
 ghost use Rattle.std.specs.List.{range_with_len};
 ghost use Rattle.wdf_model.specs.parts.Deferred.Timers as timers;
 ghost use Rattle.wdf_maps.specs.Places.{rises, with_entry};

@@ -31,5 +31,5 @@ pub use any::{AnyAgent, agents};
 pub use app::App;
 pub use device::Device;
 pub use laws::agents_are_the_models;
-pub use lower_target::{LowerTarget, handle_in, is_zero, names};
+pub use lower_target::{LowerTarget, handle_in, names};
 pub use pnp_manager::PnpManager;

@@ -1,10 +1,9 @@
-ghost use Rattle.std.specs.Prelude.{◌≡◌, ◌≤◌, ◌==◌, length, map, filter, not, slice_get, vec_capacity, IfOk};
+ghost use Rattle.std.specs.Prelude.{◌≡◌, ◌≤◌, ◌==◌, map, filter, not, slice_get, vec_capacity, IfOk};
 ghost use Rattle.wdf_model.specs.declared.entries.SentRequest.{SentRequest};
 ghost use Rattle.std.specs.List.{filter_map, position_or_len};
 ghost use Rattle.wdf_model.specs.Tables as tables;
 ghost use Rattle.wdf_model.specs.agents.LowerTarget as target;
 ghost use Rattle.wdf_model.specs.State as state;
-ghost use Rattle.wdf_model.specs.rules.Faults as faults;
 ghost use Rattle.wdf_dev.specs.Ahead.{ahead_of_sent};
 
 use crate::ahead::Ahead;
@@ -72,13 +71,6 @@ pub fn names(argument: Arg, o: ObjectId) -> bool
     ensures { result ≡ (state.object_in argument == o.0) }
 {
     same_object_id(object_in(argument), o)
-}
-
-/// Whether an argument is the number 0.
-pub fn is_zero(argument: Arg) -> bool
-    ensures { result ≡ faults.arg_is argument 0 }
-{
-    matches!(argument, Arg::Val(Value::Num(0)))
 }
 
 /// A request as it is to be cancelled, if it is this one.
@@ -267,7 +259,7 @@ impl LowerTarget {
     fn note_stop(&mut self, call: &Call)
         ensures { self.new ≡ target.stop_called self.old call.now }
     {
-        if names(call.a, self.target) && is_zero(call.b) {
+        if names(call.a, self.target) && call.b.is_number(0) {
             self.cancel_all();
         }
     }

@@ -11,7 +11,7 @@ use crate::rules::{Comment, Expectation, Expectations, Rule};
 use crate::words::{copy_of, rule_in};
 use std::alloc::{AllocError, Global};
 use wdf_base::Memory;
-use wdf_tokens::line_len;
+use wdf_tokens::{is_blank, line_len};
 use wdf_writing::Text;
 
 /// Why a text's expectations weren't read.
@@ -32,13 +32,6 @@ impl From<Memory> for ExpectError {
     fn from(_memory: Memory) -> ExpectError {
         ExpectError::Memory
     }
-}
-
-/// Whether a byte stands between words.
-fn is_blank(byte: u8) -> bool
-    ensures { result ≡ is_blank byte }
-{
-    matches!(byte, b' ' | b'\t' | b'\r')
 }
 
 /// The parts of a text between its blanks, some without bytes.

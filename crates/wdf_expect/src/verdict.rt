@@ -1,6 +1,6 @@
 //! What a run has to do with what is expected of it.
 ghost use Rattle.std.specs.Prelude.{◌≡◌, ◌++◌, IfOk, None, OnOk, count_by};
-ghost use Rattle.std.specs.List.{find, list_any};
+ghost use Rattle.std.specs.List.{list_any};
 ghost use Rattle.std.specs.Option.{option_copied};
 ghost use Rattle.wdf_expect.specs.Patterns.{matches};
 ghost use Rattle.wdf_expect.specs.Verdicts.{broken_text, ending_shown, first_broken, is_broken, is_expected, is_fault, is_followed, is_met, is_met_by, is_not_once, is_whole, judged_text, rule_word, verdict_text};

@@ -1,14 +1,12 @@
 //! Rules by their words.
 ghost use Rattle.std.specs.Prelude.{◌≡◌, ◌<◌, IfOk, IfSome, length, position};
-ghost use Rattle.std.specs.Char.{is_ascii_digit};
-ghost use Rattle.std.specs.List.{list_all};
 ghost use Rattle.wdf_expect.specs.Reading.{after_in, both_in, fault_at, fault_wanted, is_comes, number_in, pattern_in, placed_wanted, plain_wanted, rule_in, rule_with, wanted_in};
 
 use crate::pattern::Pattern;
 use crate::rules::{Rule, Wanted};
 use std::alloc::Global;
 use wdf_base::{Fault, Memory};
-use wdf_text::small_number;
+use wdf_text::{is_number, small_number};
 use wdf_writing::Text;
 
 /// A copy of a word.
@@ -55,13 +53,6 @@ fn fault_wanted(word: &Text, name: &Text) -> Option<Wanted>
     } else {
         None
     }
-}
-
-/// Whether a word has digits alone.
-fn is_number(word: &[u8]) -> bool
-    ensures { result ≡ list_all is_ascii_digit word.now }
-{
-    word.iter().all(|byte| byte.is_ascii_digit())
 }
 
 /// The number that a word of digits writes.

@@ -4,7 +4,7 @@ use Rattle.wdf_base.specs.declared.plan.Plan.{Plan}
 use Rattle.wdf_base.specs.declared.ids.Cpu.{Cpu}
 use Rattle.wdf_base.specs.declared.ids.Handle.{Handle}
 use Rattle.wdf_base.specs.declared.value.Value.{Value}
-use Rattle.wdf_base.specs.declared.value.Value.TheVariants.{Num, Obj, Stat}
+use Rattle.wdf_base.specs.declared.value.Value.TheVariants.{Obj}
 use Rattle.wdf_base.specs.declared.value.Status.TheVariants as status
 use Rattle.wdf_base.specs.declared.call.Arg.{Arg}
 use Rattle.wdf_base.specs.declared.call.Arg.TheVariants.{Val, Class}
@@ -24,6 +24,7 @@ use Rattle.wdf_explain.specs.declared.asked.Asked.{Asked}
 use Rattle.wdf_explain.specs.declared.asked.Asked.TheVariants.{About, Moves, Takes, OnCpu}
 use Rattle.wdf_explain.specs.declared.turns.Turn.{Turn}
 use Rattle.wdf_explain.specs.declared.turns.Turn.TheVariants as turn
+use Rattle.wdf_base.specs.Values.{arg_is, is_one, is_success}
 
 -- ---- what names an object
 
@@ -75,18 +76,6 @@ is_about o _ = false
 
 -- ---- what brings a request where it is
 
-abbrev pub is_success : Value → Bool
-is_success (Stat status.Success) = true
-is_success _ = false
-
-abbrev pub is_one : Value → Bool
-is_one (Num n) = n == 1
-is_one _ = false
-
-abbrev pub is_zero : Arg → Bool
-is_zero (Val (Num n)) = n == 0
-is_zero _ = false
-
 -- the callbacks whose start gives the driver their request
 abbrev pub is_giving : Callback → Bool
 is_giving callback.EvtIoRead = true
@@ -102,7 +91,7 @@ abbrev pub is_moving : CallKind → Arg → Value → Bool
 is_moving call.WdfRequestComplete b answer = true
 is_moving call.WdfRequestRequeue b answer = true
 is_moving call.WdfRequestForwardToIoQueue b answer = is_success answer
-is_moving call.WdfRequestStopAcknowledge b answer = not (is_zero b)
+is_moving call.WdfRequestStopAcknowledge b answer = not (arg_is b 0)
 is_moving call.WdfRequestSend b answer = is_one answer
 is_moving _ b answer = false
 

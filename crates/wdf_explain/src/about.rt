@@ -2,9 +2,7 @@
 ghost use Rattle.std.specs.Prelude.{◌≡◌};
 ghost use Rattle.wdf_explain.specs.About as about;
 
-use wdf_base::{
-    Action, Arg, Call, CallKind, Callback, Event, Handle, ObjectId, Post, Status, Value,
-};
+use wdf_base::{Action, Arg, Call, CallKind, Callback, Event, Handle, ObjectId, Post, Value};
 
 fn is_object(object: ObjectId, handle: Handle) -> bool
     ensures { result ≡ about.is_object object.0 handle }
@@ -102,30 +100,6 @@ pub(crate) fn is_about(object: ObjectId, event: &Event) -> bool
     }
 }
 
-fn is_success(value: Value) -> bool
-    ensures { result ≡ about.is_success value }
-{
-    matches!(value, Value::Stat(Status::Success))
-}
-
-fn is_one(value: Value) -> bool
-    ensures { result ≡ about.is_one value }
-{
-    match value {
-        Value::Num(number) => number == 1,
-        _ => false,
-    }
-}
-
-fn is_zero(argument: Arg) -> bool
-    ensures { result ≡ about.is_zero argument }
-{
-    match argument {
-        Arg::Val(Value::Num(number)) => number == 0,
-        _ => false,
-    }
-}
-
 /// Whether the start of a callback gives the driver its request.
 fn is_giving(callback: Callback) -> bool
     ensures { result ≡ about.is_giving callback }
@@ -147,9 +121,9 @@ fn is_moving(kind: CallKind, b: Arg, answer: Value) -> bool
 {
     match kind {
         CallKind::WdfRequestComplete | CallKind::WdfRequestRequeue => true,
-        CallKind::WdfRequestForwardToIoQueue => is_success(answer),
-        CallKind::WdfRequestStopAcknowledge => !is_zero(b),
-        CallKind::WdfRequestSend => is_one(answer),
+        CallKind::WdfRequestForwardToIoQueue => answer.is_success(),
+        CallKind::WdfRequestStopAcknowledge => !b.is_number(0),
+        CallKind::WdfRequestSend => answer.is_one(),
         _ => false,
     }
 }

@@ -1,5 +1,5 @@
 //! The numbers of the events of a run that are looked for, and their lines.
-ghost use Rattle.std.specs.Prelude.{◌≡◌, ◌-◌, ◌++◌, IfOk, OnOk, length, slice_get};
+ghost use Rattle.std.specs.Prelude.{◌≡◌, ◌-◌, ◌++◌, IfOk, OnOk, slice_get};
 ghost use Rattle.wdf_explain.specs.About.{event_if_any, event_lines, last_number, last_of, number_if, numbers_of};
 
 use crate::asked::Asked;

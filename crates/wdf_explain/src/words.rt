@@ -1,5 +1,5 @@
 //! Objects, calls and what a frame is about to do, as words.
-ghost use Rattle.std.specs.Prelude.{◌≡◌, ◌++◌, OnOk, codes, decimal, option_map, slice_get};
+ghost use Rattle.std.specs.Prelude.{◌≡◌, ◌++◌, OnOk, codes, decimal};
 ghost use Rattle.wdf_base.specs.Kinds.{class_name};
 ghost use Rattle.wdf_base.specs.Resolved.{register_name};
 ghost use Rattle.wdf_base.specs.Words.{callback_word, fault_word, status_word};
@@ -7,7 +7,7 @@ ghost use Rattle.wdf_lines.specs.Lines.{argument_text, argument_words, named, ob
 ghost use Rattle.wdf_explain.specs.Words.{call_text, intent_text};
 
 use wdf_base::{Arg, Call, Callback, Fault, Handle, Intent, Memory, Plan, Status, Value};
-use wdf_lines::name_bytes;
+use wdf_lines::{class_name, name_bytes, register_name};
 use wdf_writing::Text;
 
 /// The word of a callback.
@@ -110,22 +110,6 @@ fn push_named(out: &mut Text, plan: &Plan, name: Option<u32>) -> Result<(), Memo
         Some(name) => out.push(name_bytes(plan, name)),
         None => Ok(()),
     }
-}
-
-/// The number of the name of a class.
-fn class_name(plan: &Plan, class: u16) -> Option<u32>
-    ensures { result ≡ option_map class_name (slice_get plan.now.classes class) }
-{
-    let class = plan.classes.as_slice().get(class as usize)?;
-    Some(class.name())
-}
-
-/// The number of the name of a register.
-fn register_name(plan: &Plan, register: u32) -> Option<u32>
-    ensures { result ≡ option_map register_name (slice_get plan.now.registers register) }
-{
-    let register = plan.registers.as_slice().get(register as usize)?;
-    Some(register.name)
 }
 
 /// Adds a register.

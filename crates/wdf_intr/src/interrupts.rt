@@ -1,29 +1,34 @@
-ghost use Rattle.std.specs.Prelude.{◌≡◌, ◌<◌, IfOk, IsTrue};
+ghost use Rattle.std.specs.Prelude.{◌≡◌, ◌<◌, IfOk, IsTrue, MatchOption, false};
+ghost use Rattle.wdf_model.specs.Tables.{put};
 ghost use Rattle.wdf_model.specs.parts.Interrupts as interrupts;
+ghost use Rattle.wdf_model.specs.parts.Interrupts.{is_enabled};
+ghost use Rattle.wdf_sets.specs.Nexts.{IsNext, NoneFrom};
 
 use std::alloc::Global;
 use std::marker::Model;
 use wdf_base::{Memory, ObjectId, Plan};
-use wdf_maps::{entry_at, put_at};
 use wdf_model::OBJECTS;
+use wdf_sets::IdSet;
 
 /// Which interrupts are enabled. (KMDF)
 #[derive(Drop)]
 pub struct Interrupts {
-    /// By the interrupt's id.
-    enabled: Vec<bool>,
+    /// Those that are.
+    set: IdSet,
+    /// An id from which on none was enabled or disabled: the list that contracts see ends before it.
+    end: u32,
 }
 
 impl Model for Interrupts {
-    ghost use Rattle.std.specs.Prelude.{◌≤◌, length, vec_capacity};
-    ghost use Rattle.wdf_model.specs.declared.room.TheConstants.{OBJECTS};
     ghost use Rattle.wdf_model.specs.parts.Interrupts.{Interrupts as Enabled};
 
     ghost Value = { Enabled };
 
-    ghost view = { λ a. record { enabled = a.enabled.items } };
+    ghost use Rattle.wdf_intr.specs.Enabled.{enabled_in, IsSound};
 
-    ghost invariant = { λ a. record { room : OBJECTS ≤ vec_capacity a.enabled; within : length a.enabled.items ≤ OBJECTS } };
+    ghost view = { enabled_in };
+
+    ghost invariant = { IsSound };
 }
 
 impl Interrupts {
@@ -32,7 +37,8 @@ impl Interrupts {
         ensures { IfOk result (λ i. i ≡ interrupts.no_interrupts) }
     {
         Ok(Interrupts {
-            enabled: Vec::with_capacity(alloc, OBJECTS as usize)?,
+            set: IdSet::make(alloc, OBJECTS)?,
+            end: 0,
         })
     }
 
@@ -40,7 +46,8 @@ impl Interrupts {
     pub fn begin_again(&mut self)
         ensures { self.new ≡ interrupts.no_interrupts }
     {
-        self.enabled.clear();
+        self.set.clear();
+        self.end = 0;
     }
 
     /// Whether an interrupt is enabled.
@@ -48,7 +55,14 @@ impl Interrupts {
         ensures value { result ≡ interrupts.is_enabled self.now i.0 }
         ensures there { IsTrue result → i.0 < OBJECTS }
     {
-        entry_at(&self.enabled, false, i.0)
+        self.set.contains(i.0)
+    }
+
+    /// The first enabled interrupt from an id on that is below an end, found without a look at each id.
+    pub fn next_enabled(&self, from: u32, end: u32) -> Option<u32>
+        ensures { MatchOption result (NoneFrom (is_enabled self.now) from end) (λ id. IsNext (is_enabled self.now) from end id) }
+    {
+        self.set.next(from, end)
     }
 
     /// Whether the service routine of an interrupt is due: its level line is 1 and it is enabled.
@@ -59,21 +73,28 @@ impl Interrupts {
         line && self.is_enabled(i)
     }
 
+    /// Writes whether an interrupt is enabled.
+    fn write(&mut self, i: ObjectId, on: bool)
+        requires { i.0 < OBJECTS }
+        ensures { self.new.enabled ≡ put false self.old.enabled i.0 on }
+    {
+        self.set.put(i.0, on);
+        self.end = self.end.max(i.0 + 1);
+    }
+
     /// An interrupt is enabled.
-    #[tactic(auto, using(wdf_model::proofs::Maps::put_short))]
     pub fn enable(&mut self, i: ObjectId)
         requires room { i.0 < OBJECTS }
         ensures { self.new ≡ interrupts.enable self.old i.0 }
     {
-        put_at(&mut self.enabled, false, i.0, true);
+        self.write(i, true);
     }
 
     /// An interrupt is disabled.
-    #[tactic(auto, using(wdf_model::proofs::Maps::put_short))]
     pub fn disable(&mut self, i: ObjectId)
         requires room { i.0 < OBJECTS }
         ensures { self.new ≡ interrupts.disable self.old i.0 }
     {
-        put_at(&mut self.enabled, false, i.0, false);
+        self.write(i, false);
     }
 }

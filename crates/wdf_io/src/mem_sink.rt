@@ -1,5 +1,5 @@
 //! A sink that keeps its bytes in memory.
-ghost use Rattle.std.specs.Prelude.{◌≡◌, ◌≤◌, ◌<◌, ◌⊎◌, ◌↔◌, ◌++◌, [], Some, IsErr, IfOk, OnErr, length, take};
+ghost use Rattle.std.specs.Prelude.{◌≡◌, ◌≤◌, ◌<◌, ◌⊎◌, ◌↔◌, [], Some, IsErr, IfOk, OnErr, length, take};
 ghost use Rattle.wdf_io.specs.Memory.{NextFails, taken, after_taking, after_refusing};
 ghost use Rattle.wdf_io.specs.Outside.{Rose};
 

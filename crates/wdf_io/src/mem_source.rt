@@ -1,7 +1,7 @@
 //! A source that holds its bytes in memory.
-ghost use Rattle.std.specs.Prelude.{◌≡◌, ◌≤◌, ◌<◌, ◌↔◌, ◌++◌, [], Some, IsErr, IfOk, OnErr, OnOk, IfSome, length, take, drop};
+ghost use Rattle.std.specs.Prelude.{◌≡◌, ◌≤◌, ◌<◌, ◌↔◌, ◌++◌, [], Some, IsErr, IfOk, OnErr, length, take, drop};
 ghost use Rattle.wdf_io.specs.Memory.{NextFails, given, after_giving, after_failing};
-ghost use Rattle.wdf_io.specs.Outside.{Takes, Rose};
+ghost use Rattle.wdf_io.specs.Outside.{Rose};
 
 use super::calls::Calls;
 use super::{Failed, Source};

@@ -20,11 +20,11 @@ use Rattle.wdf_base.specs.declared.event.Post.TheVariants as post
 use Rattle.wdf_base.specs.declared.event.Event.{Event}
 use Rattle.wdf_base.specs.declared.event.Event.TheVariants as event
 use Rattle.wdf_base.specs.Callbacks.{row_of}
-use Rattle.wdf_base.specs.Same.{same_callback, same_call_kind, same_stage, same_status}
-use Rattle.wdf_model.specs.rules.Faults.{arg_is}
+use Rattle.wdf_base.specs.Same.{same_callback, same_call_kind, same_stage}
 use Rattle.wdf_model.specs.Plans.{parent_of_class}
 use Rattle.wdf_laws.specs.declared.sign.Taking.{Taking}
 use Rattle.wdf_laws.specs.declared.sign.Told.{Told}
+use Rattle.wdf_base.specs.Values.{arg_is, is_one, is_success}
 
 -- ---- ids
 
@@ -48,18 +48,6 @@ value_object (Stat s) = None
 abbrev pub argument_object : Arg → Option ℕ
 argument_object (Val v) = value_object v
 argument_object (Class c) = None
-
--- an answer is SUCCESS
-abbrev pub is_success : Value → Bool
-is_success (Stat s) = same_status s status.Success
-is_success (Num n) = false
-is_success (Obj h) = false
-
--- an answer is the number 1
-abbrev pub is_one : Value → Bool
-is_one (Num n) = n == 1
-is_one (Stat s) = false
-is_one (Obj h) = false
 
 -- what there is where a test holds
 abbrev pub where_so : Bool → Option ℕ → Option ℕ

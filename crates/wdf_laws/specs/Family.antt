@@ -8,6 +8,7 @@ use Rattle.wdf_base.specs.declared.call.Callback.{Callback}
 use Rattle.wdf_base.specs.declared.event.Event.{Event}
 use Rattle.wdf_base.specs.Plan.{declared_of}
 use Rattle.wdf_model.specs.parts.Locks.{scope_of}
+use Rattle.wdf_model.specs.parts.Tree.{declared_parent}
 use Rattle.wdf_laws.specs.declared.sign.Sign.TheVariants as sign
 use Rattle.wdf_laws.specs.declared.sign.Told.{Told}
 use Rattle.wdf_laws.specs.Events.{told}
@@ -24,15 +25,6 @@ tells_of plan o e = is_told o (told plan e)
 -- what the earliest event that says something of an object says
 abbrev pub first_told : Plan → List Event → ℕ → Option Told
 first_told plan all o = option_and_then (told plan) (find (tells_of plan o) all)
-
--- the parent of a declared object, 0 for none: of a device the driver object, of the rest their device
-abbrev pub declared_parent : Declared → ℕ
-declared_parent declared.Driver = 0
-declared_parent (declared.Device d) = 1
-declared_parent (declared.Queue q) = q.device.0
-declared_parent (declared.Interrupt i) = i.device.0
-declared_parent (declared.Target t) = t.device.0
-declared_parent (declared.OfClass c) = 0
 
 abbrev pub told_parent : Option Told → ℕ
 told_parent None = 0

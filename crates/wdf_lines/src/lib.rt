@@ -26,4 +26,4 @@ pub use endings::{ending_line, ending_word, wait_line};
 pub use line::{LINE_LIMIT, Line};
 pub use lines::{line_of, rewrite};
 pub use message::{Message, one_number, two_numbers};
-pub use pieces::name_bytes;
+pub use pieces::{class_name, name_bytes, register_name};

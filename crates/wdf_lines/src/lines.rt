@@ -1,6 +1,5 @@
-ghost use Rattle.std.specs.Prelude.{◌≡◌, ◌+◌, ◌<◌, ◌≤◌, ◌++◌, ◌∷◌, [], length, codes, decimal, Option};
-ghost use Rattle.wdf_base.specs.Words.{call_word};
-ghost use Rattle.wdf_lines.specs.Lines.{spaced, line_text, event_words, post_words, action_words, access_words, answered_words, argument_words, value_text, object_text, register_text};
+ghost use Rattle.std.specs.Prelude.{◌≡◌, ◌+◌, ◌<◌, ◌≤◌, ◌++◌, length, Option};
+ghost use Rattle.wdf_lines.specs.Lines.{spaced, line_text, event_words, post_words, action_words, access_words, answered_words};
 
 use crate::line::{LINE_LIMIT, Line};
 use crate::pieces::*;

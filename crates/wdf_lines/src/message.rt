@@ -1,5 +1,5 @@
 //! Short messages, built without heap.
-ghost use Rattle.std.specs.Prelude.{◌≡◌, ◌+◌, ◌≤◌, [], ◌++◌, length, decimal};
+ghost use Rattle.std.specs.Prelude.{◌≡◌, ◌+◌, ◌≤◌, ◌++◌, length, decimal};
 
 use arrayvec::ArrayVec;
 use itoa::Buffer;

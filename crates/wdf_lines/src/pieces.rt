@@ -31,16 +31,16 @@ fn named_bytes(plan: &Plan, name: Option<u32>) -> &[u8]
     }
 }
 
-/// The number of the name of a class.
-fn class_name(plan: &Plan, class: u16) -> Option<u32>
+/// The number of the name of a class; `None` where the plan has no such class.
+pub fn class_name(plan: &Plan, class: u16) -> Option<u32>
     ensures { result ≡ option_map class_name (slice_get plan.now.classes class) }
 {
     let class = plan.classes.as_slice().get(class as usize)?;
     Some(class.name())
 }
 
-/// The number of the name of a register.
-fn register_name(plan: &Plan, register: u32) -> Option<u32>
+/// The number of the name of a register; `None` where the plan has no such register.
+pub fn register_name(plan: &Plan, register: u32) -> Option<u32>
     ensures { result ≡ option_map register_name (slice_get plan.now.registers register) }
 {
     let register = plan.registers.as_slice().get(register as usize)?;

@@ -4,7 +4,7 @@ ghost use Rattle.wdf_lint.specs.declared.state.Known.TheVariants as known;
 ghost use Rattle.wdf_lint.specs.Steps as spec;
 
 use crate::state::{Abstract, Known};
-use wdf_base::{ArgNode, ContextWord, ExprNode, Operator, Plan, Status, same_status};
+use wdf_base::{ArgNode, ContextWord, ExprNode, Operator, Plan, same_status};
 
 /// The node with number `e`, if there is one.
 pub fn node_at(plan: &Plan, e: u32) -> Option<ExprNode>

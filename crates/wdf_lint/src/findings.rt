@@ -1,6 +1,5 @@
 //! Findings, and the list of them that `lint` answers.
-ghost use Rattle.std.specs.Prelude.{◌≡◌, ◌≢◌, ◌<◌, ◌++◌, ℕ, ◌==◌, ◌&&◌, [], length, option_map, Some, slice_get, IfOk, OnOk};
-ghost use Rattle.std.specs.List.{list_any};
+ghost use Rattle.std.specs.Prelude.{◌≡◌, ◌<◌, ◌==◌, length, option_map, Some, slice_get};
 ghost use Rattle.wdf_lint.specs.Findings as spec;
 
 use crate::lines::Lines;

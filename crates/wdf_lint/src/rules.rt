@@ -1,9 +1,8 @@
 //! The rule that a state breaks at its statement.
-ghost use Rattle.std.specs.Prelude.{◌≡◌, slice_get};
+ghost use Rattle.std.specs.Prelude.{◌≡◌};
 ghost use Rattle.wdf_lint.specs.Steps as spec;
 ghost use Rattle.wdf_lint.specs.Walked.{IsOf};
 ghost use Rattle.wdf_base.specs.Callbacks.{row_of};
-ghost use Rattle.wdf_model.specs.Tables.{contains};
 
 use crate::atoms::{is_request_word, is_zero, node_of, variable_in};
 use crate::state::{Abstract, HeldLock, Hold};

@@ -1,8 +1,7 @@
 //! The states that a callback's walk comes to, each with a least path.
-ghost use Rattle.std.specs.Prelude.{◌≡◌, ◌<◌, ◌≤◌, ◌≢◌, ℕ, ◌++◌, ◌∷◌, [], None, Some, length, fold, slice_get, slice_index, IfOk, OnOk};
+ghost use Rattle.std.specs.Prelude.{◌≡◌, ◌<◌, ◌≤◌, ◌≢◌, ℕ, None, Some, length, fold, slice_index, IfOk, OnOk};
 ghost use Rattle.std.specs.List.{flat_map, list_any};
 ghost use Rattle.std.specs.List.Sorted.{IsNonDecreasingBy, IsPermutation};
-ghost use Rattle.wdf_lint.specs.Abstracts as abstract_;
 ghost use Rattle.wdf_lint.specs.Steps as spec;
 ghost use Rattle.wdf_lint.specs.Walks as walks;
 ghost use Rattle.wdf_lint.specs.Walked.{IsOf};

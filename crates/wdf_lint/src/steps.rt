@@ -3,8 +3,7 @@ ghost use Rattle.std.specs.Prelude.{◌≡◌, IfOk, OnOk, [], ◌∷◌, ◌++�
 ghost use Rattle.wdf_lint.specs.Steps as spec;
 ghost use Rattle.wdf_lint.specs.Abstracts as abstract_;
 ghost use Rattle.wdf_lint.specs.Walked.{IsOf};
-ghost use Rattle.wdf_base.specs.Plan.{statements_of};
-ghost use Rattle.std.specs.Prelude.{◌<◌, length, slice_get};
+ghost use Rattle.std.specs.Prelude.{◌<◌, length};
 
 use crate::atoms::{decided, known_of, node_of, variable_in};
 use crate::rules::{interrupt_in, rule_of_call};

@@ -1,9 +1,8 @@
 //! The callback that is walked.
-ghost use Rattle.std.specs.Prelude.{◌≡◌, ◌<◌, length, position, IfOk, IfSome};
+ghost use Rattle.std.specs.Prelude.{◌≡◌, ◌<◌, length, position, IfSome};
 ghost use Rattle.wdf_base.specs.SamePlan.{same_declared};
 ghost use Rattle.std.specs.List.{list_any};
 ghost use Rattle.wdf_base.specs.declared.script.Statement.{Statement};
-ghost use Rattle.wdf_base.specs.Plan.{statements_of};
 ghost use Rattle.wdf_lint.specs.Abstracts as abstract_;
 ghost use Rattle.wdf_lint.specs.Walks as walks;
 ghost use Rattle.wdf_lint.specs.Walked.{IsOf};

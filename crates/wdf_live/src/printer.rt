@@ -1,5 +1,5 @@
 //! The printer: it writes the lines of the events as they come.
-ghost use Rattle.std.specs.Prelude.{◌≡◌, ◌≤◌, ◌++◌, [], true, false, IsTrue, codes, length, OnOk, OnErr};
+ghost use Rattle.std.specs.Prelude.{◌≡◌, ◌≤◌, ◌++◌, [], true, false, IsTrue, codes, OnOk, OnErr};
 ghost use Rattle.crossbeam_queue.specs.Passes.{view, IsPassOf};
 ghost use Rattle.wdf_io.specs.Outside.{Gains, EndsRefused};
 ghost use Rattle.wdf_lines.specs.Lines.{line_text};

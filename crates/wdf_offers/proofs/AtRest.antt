@@ -1,5 +1,5 @@
 -- Where the callbacks of a rank rest on a processor, nothing may come of them.
-use Rattle.std.proofs.Common.{Bool, true, false, not, ◌==◌, ℕ, ◌≡◌, List, [], ◌∷◌, find, length, None, refl, ◌∙◌, arith}
+use Rattle.std.proofs.Common.{Bool, true, false, not, ◌==◌, ℕ, ◌≡◌, List, [], ◌∷◌, find, length, None, refl, ap, ◌∙◌, arith}
 use Rattle.std.specs.Prelude.{nat_le}
 use Rattle.std.proofs.lemmas.Bool.{eqb-true}
 use Rattle.wdf_base.specs.Meaning.{Meaning}
@@ -10,19 +10,22 @@ use Rattle.wdf_model.proofs.Tests.{left_fails, right_fails}
 use Rattle.wdf_model.specs.State.{State, is_held_from}
 use Rattle.wdf_model.specs.declared.enums.Group.TheVariants as group
 use Rattle.wdf_model.specs.parts.Power.{resume_due}
+use Rattle.wdf_model.specs.parts.Targets.{the_target}
 use Rattle.wdf_model.specs.rules.Starts.{level_fits}
+use Rattle.wdf_target.specs.Laden.{none_laden}
+use Rattle.wdf_target.proofs.Noting.{unladen}
 use Rattle.wdf_offers.specs.declared.for_requests.Herd.{Herd}
 use Rattle.wdf_offers.specs.declared.for_requests.Herd.TheVariants as herd
 use Rattle.wdf_offers.specs.ForRequests.{IsExact, can_be, herd_of, is_counted, is_due_for, rank_of, whole}
 use Rattle.wdf_offers.specs.Idle.{is_due_at}
 use Rattle.wdf_offers.specs.Leaving.{IsSettled}
-use Rattle.wdf_offers.specs.Resting.{none_counted}
+use Rattle.wdf_offers.specs.Resting.{none_counted, none_due}
 use Rattle.wdf_offers.specs.Search.{offered_from}
 use Rattle.wdf_offers.proofs.Cancels.{not_on}
 use Rattle.wdf_offers.proofs.HerdWalk.{none_of}
 use Rattle.wdf_offers.proofs.Herds.{exact_returns, exact_stops, whole_part, whole_test}
 use Rattle.wdf_offers.proofs.NotOffered.{for_low, not_due, too_high_for}
-use Rattle.wdf_offers.proofs.Places.{nothing_there}
+use Rattle.wdf_offers.proofs.Places.{nothing_there, past}
 
 none_among : (p : ℕ → Bool) (xs : List ℕ) → length xs ≡ 0 → None ≡ find p xs
 none_among p [] h = refl
@@ -54,12 +57,23 @@ module _ {A : Type 0} (plan : Plan) (m : Meaning A) (S : State A) (settled : IsS
     herd_off h e q = nothing_there plan m S (group.StartsFor cpu (rank_of h) q) (λ k. not_due plan m S cpu (rank_of h) q k (due_off h (eqb-true (length (whole h S)) 0 e) q k))
 
     -- where none is counted for the callbacks of a rank, nothing may come of them
-    pub counted_off : (r : Rank) → none_counted S (herd_of r) ≡ true → (o : ℕ) → offered_from plan m S (group.StartsFor cpu r o) 0 ≡ []
+    counted_off : (r : Rank) → none_counted S (herd_of r) ≡ true → (o : ℕ) → offered_from plan m S (group.StartsFor cpu r o) 0 ≡ []
     counted_off rank.Cancel e o = herd_off herd.Cancel e o
     counted_off rank.CanceledOnQueue e o = herd_off herd.Return e o
     counted_off rank.Stop e o = herd_off herd.Stop e o
     counted_off rank.Resume e o = herd_off herd.Resume e o
     counted_off _ e o = absurd (let z : ⊥ = cc in z)
+
+    -- where no target has a request, no group of completion routines has a place
+    unladen_off : none_laden S.targets ≡ true → (t : ℕ) → offered_from plan m S (group.StartsFor cpu rank.Completion t) 0 ≡ []
+    unladen_off e t =
+        let none : length (the_target S.targets t).sent ≡ 0 = ap length (unladen S.targets t e) in
+        past plan m S (group.StartsFor cpu rank.Completion t) 0 (omega arith)
+
+    -- where the callbacks of a rank are due for no request, nothing may come of them
+    pub undue_off : (r : Rank) → none_due S r ≡ true → (o : ℕ) → offered_from plan m S (group.StartsFor cpu r o) 0 ≡ []
+    undue_off rank.Completion e o = unladen_off e o
+    undue_off r e o = counted_off r e o
 
     -- nor where the level is too high
     pub high_off : (r : Rank) → not (level_fits S cpu 2) ≡ true → (o : ℕ) → offered_from plan m S (group.StartsFor cpu r o) 0 ≡ []

@@ -8,7 +8,7 @@ pub mod Straight
 pub mod AgentsPassed
 pub mod Begins
 mod DueTimers
-mod CountedStarts
+mod LastPlace
 pub mod Numbered
 pub mod Leavers
 mod ComingBack

@@ -1,8 +1,10 @@
 -- When no callback of a rank for requests starts on a processor, on whatever object. (own)
 use Rattle.std.specs.Prelude.{ℕ, Bool, false, not, ◌==◌, ◌||◌, length, Option, Some, None}
 use Rattle.wdf_base.specs.declared.rank.Rank.{Rank}
+use Rattle.wdf_base.specs.declared.rank.Rank.TheVariants as rank
 use Rattle.wdf_model.specs.State.{State}
 use Rattle.wdf_model.specs.rules.Starts.{level_fits}
+use Rattle.wdf_target.specs.Laden.{none_laden}
 use Rattle.wdf_offers.specs.declared.for_requests.Herd.{Herd}
 use Rattle.wdf_offers.specs.ForRequests.{herd_of, whole}
 
@@ -11,7 +13,12 @@ abbrev pub none_counted : {A : Type 0} → State A → Option Herd → Bool
 none_counted S None = false
 none_counted S (Some h) = length (whole h S) == 0
 
+-- the callbacks of a rank are due for no request, as one part says: no target has any, or none is counted for whatever queue
+abbrev pub none_due : {A : Type 0} → State A → Rank → Bool
+none_due S rank.Completion = none_laden S.targets
+none_due S r = none_counted S (herd_of r)
+
 -- The callbacks of a rank rest on a processor: it is at DISPATCH_LEVEL or above, at which none for a request starts; or they
 -- are due for no request.
 abbrev pub rests : {A : Type 0} → State A → ℕ → Rank → Bool
-rests S cpu r = not (level_fits S cpu 2) || none_counted S (herd_of r)
+rests S cpu r = not (level_fits S cpu 2) || none_due S r

@@ -1,5 +1,5 @@
 //! Cleanups, ends, own events and completions, tested by the parts that decide and not by `may`.
-ghost use Rattle.std.specs.Prelude.{◌≡◌, ◌+◌, ◌<◌, ◌≤◌, ◌^◌, ◌&&◌, IsTrue, Some, is_some, length, not, slice_get, MatchResult};
+ghost use Rattle.std.specs.Prelude.{◌≡◌, ◌+◌, ◌<◌, ◌≤◌, ◌^◌, ◌&&◌, Some, is_some, length, not, slice_get, MatchResult};
 ghost use Rattle.wdf_base.specs.declared.event.Event.TheVariants as event;
 ghost use Rattle.wdf_model.specs.State as state;
 ghost use Rattle.wdf_model.specs.declared.enums.Group.TheVariants as group;
@@ -8,7 +8,6 @@ ghost use Rattle.wdf_offers.specs.Search as search;
 
 use crate::candidates::completion_at;
 use wdf_base::{Agent, Callback, Cpu, Event, Frame, ObjectId};
-use wdf_model::Group;
 use wdf_parts::Parts;
 use wdf_plan_index::IndexedPlan;
 use wdf_starts::{callback_over, clean_ready, destroy_ready};

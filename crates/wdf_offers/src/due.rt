@@ -9,7 +9,6 @@ ghost use Rattle.wdf_offers.specs.Idle as idle;
 
 use crate::candidates::callback_for;
 use wdf_base::{Agent, Callback, Kind, ObjectId, Rank};
-use wdf_model::OBJECTS;
 use wdf_parts::Parts;
 use wdf_plan_index::IndexedPlan;
 use wdf_starts::rank_ready_for;
@@ -139,20 +138,6 @@ fn counts<A: Agent>(parts: &Parts<A>, o: ObjectId) -> bool
     !parts.tree().life(o).is_gone() && parts.tree().kind(o) != Kind::Request
 }
 
-/// Whether a queue has a request at its front, and is free.
-fn can_present<A: Agent>(parts: &Parts<A>, q: ObjectId) -> bool
-    ensures { result ≡ idle.can_start_at parts.now rank.Handler q.0 }
-{
-    !parts.queues().is_empty(q) && parts.queues().is_free(q)
-}
-
-/// Whether a device has a step left.
-fn has_step<A: Agent>(parts: &Parts<A>, d: ObjectId) -> bool
-    ensures { result ≡ idle.can_start_at parts.now rank.Sequence d.0 }
-{
-    parts.pnp().steps_left(d) > 0
-}
-
 /// Whether a callback of a rank can start at a place, as one part says.
 fn can_start_at<A: Agent>(parts: &Parts<A>, rank: Rank, o: ObjectId) -> bool
     ensures { result ≡ idle.can_start_at parts.now rank o.0 }
@@ -160,8 +145,8 @@ fn can_start_at<A: Agent>(parts: &Parts<A>, rank: Rank, o: ObjectId) -> bool
     match rank {
         Rank::Isr => parts.interrupts().is_enabled(o),
         Rank::QueueState => parts.control().notify_due(o),
-        Rank::Handler => can_present(parts, o),
-        Rank::Sequence => has_step(parts, o),
+        Rank::Handler => !parts.queues().is_empty(o) && parts.queues().is_free(o),
+        Rank::Sequence => parts.pnp().steps_left(o) > 0,
         Rank::Timed => is_timer_due(parts, o.0),
         Rank::Cleanup => parts.tree().may_clean(o) && counts(parts, o),
         Rank::Destroy => parts.tree().life(o).is_cleaned() && counts(parts, o),
@@ -169,105 +154,39 @@ fn can_start_at<A: Agent>(parts: &Parts<A>, rank: Rank, o: ObjectId) -> bool
     }
 }
 
-/// The first place from one on below an end of a queued timer whose due tick is reached. It goes by the set of the due ones.
-fn next_timer<A: Agent>(parts: &Parts<A>, from: usize, end: usize) -> Option<usize>
-    requires small { end ≤ 2 ^ 32 }
+/// The first place from one on below an end of a queued timer whose due tick is reached.
+fn next_timer<A: Agent>(parts: &Parts<A>, from: u32, end: u32) -> Option<u32>
     ensures { MatchOption result (NoneFrom (idle.can_start_at parts.now rank.Timed) from end)
         (λ place. IsNext (idle.can_start_at parts.now rank.Timed) from end place) }
 {
-    if from >= end {
-        return None;
-    }
-    match parts.timers().next_due(from as u32, parts.now()) {
-        Some(place) => {
-            if (place as usize) < end {
-                Some(place as usize)
-            } else {
-                None
-            }
-        }
+    match parts.timers().next_due(from, parts.now()) {
+        Some(place) => { if place < end { Some(place) } else { None } }
         None => None,
     }
 }
 
-/// The first place from one on below an end of an object on which a cleanup callback can start. Arrived requests between
-/// two others are passed over without a look at each.
-fn next_turn<A: Agent>(parts: &Parts<A>, from: usize, end: usize) -> Option<usize>
-    requires small { end ≤ 2 ^ 32 }
-    ensures { MatchOption result (NoneFrom (idle.can_start_at parts.now rank.Cleanup) from end)
-        (λ place. IsNext (idle.can_start_at parts.now rank.Cleanup) from end place) }
-{
-    let _room = parts.tree().turn_len();
-    if from >= end {
-        return None;
-    }
-    let to = end.min(OBJECTS as usize) as u32;
-    match parts.tree().next_counted_turn(from as u32, to) {
-        Some(o) => Some(o as usize),
-        None => None,
-    }
-}
-
-/// The same of a destroy callback.
-fn next_cleaned<A: Agent>(parts: &Parts<A>, from: usize, end: usize) -> Option<usize>
-    requires small { end ≤ 2 ^ 32 }
-    ensures { MatchOption result (NoneFrom (idle.can_start_at parts.now rank.Destroy) from end)
-        (λ place. IsNext (idle.can_start_at parts.now rank.Destroy) from end place) }
-{
-    let _room = parts.tree().turn_len();
-    if from >= end {
-        return None;
-    }
-    let to = end.min(OBJECTS as usize) as u32;
-    match parts.tree().next_counted_cleaned(from as u32, to) {
-        Some(o) => Some(o as usize),
-        None => None,
-    }
-}
-
-/// The same for a callback of any rank: it asks each place.
-fn next_by_one<A: Agent>(parts: &Parts<A>, rank: Rank, from: usize, end: usize) -> Option<usize>
-    requires small { end ≤ 2 ^ 32 }
+/// The first place from one on below an end at which a callback of a rank can start. The part that says so has a set of these
+/// places, and none is looked at: the enabled interrupts, the queues whose notification is due, those that present one
+/// request more, the devices with a step left, the timers that are due, and what has its turn to be cleaned up or is cleaned, and
+/// isn't an arrived request. At a place of another rank one can start.
+fn next_of_part<A: Agent>(parts: &Parts<A>, rank: Rank, from: u32, end: u32) -> Option<u32>
     ensures { MatchOption result (NoneFrom (idle.can_start_at parts.now rank) from end)
         (λ place. IsNext (idle.can_start_at parts.now rank) from end place) }
 {
-    for place in from..end {
-        if can_start_at(parts, rank, ObjectId(place as u32)) {
-            return Some(place);
-        }
+    match rank {
+        Rank::Isr => parts.interrupts().next_enabled(from, end),
+        Rank::QueueState => parts.control().next_notify_due(from, end),
+        Rank::Handler => parts.queues().next_presentable(from, end),
+        Rank::Sequence => parts.pnp().next_stepping(from, end),
+        Rank::Timed => next_timer(parts, from, end),
+        Rank::Cleanup => parts.tree().next_counted_turn(from, end),
+        Rank::Destroy => parts.tree().next_counted_cleaned(from, end),
+        _ => { if from < end { Some(from) } else { None } }
     }
-    None
 }
 
-/// The same for the handler of a queue: it looks at the list of each.
-fn next_handler<A: Agent>(parts: &Parts<A>, from: usize, end: usize) -> Option<usize>
-    requires small { end ≤ 2 ^ 32 }
-    ensures { MatchOption result (NoneFrom (idle.can_start_at parts.now rank.Handler) from end)
-        (λ place. IsNext (idle.can_start_at parts.now rank.Handler) from end place) }
-{
-    for place in from..end {
-        if can_present(parts, ObjectId(place as u32)) {
-            return Some(place);
-        }
-    }
-    None
-}
-
-/// The same for a step of a sequence: it looks at how many are left to each device.
-fn next_step<A: Agent>(parts: &Parts<A>, from: usize, end: usize) -> Option<usize>
-    requires small { end ≤ 2 ^ 32 }
-    ensures { MatchOption result (NoneFrom (idle.can_start_at parts.now rank.Sequence) from end)
-        (λ place. IsNext (idle.can_start_at parts.now rank.Sequence) from end place) }
-{
-    for place in from..end {
-        if has_step(parts, ObjectId(place as u32)) {
-            return Some(place);
-        }
-    }
-    None
-}
-
-/// The first place from one on below an end at which a callback of a rank can start.
+/// The first place from one on below an end at which a callback of a rank can start. It goes by the sets of the parts. These
+/// end before the last number of 32 bits, which is asked for by itself: no scenario declares so many objects.
 pub fn next_startable<A: Agent>(
     parts: &Parts<A>,
     rank: Rank,
@@ -278,12 +197,16 @@ pub fn next_startable<A: Agent>(
     ensures { MatchOption result (NoneFrom (idle.can_start_at parts.now rank) from end)
         (λ place. IsNext (idle.can_start_at parts.now rank) from end place) }
 {
-    match rank {
-        Rank::Timed => next_timer(parts, from, end),
-        Rank::Cleanup => next_turn(parts, from, end),
-        Rank::Destroy => next_cleaned(parts, from, end),
-        Rank::Handler => next_handler(parts, from, end),
-        Rank::Sequence => next_step(parts, from, end),
-        _ => next_by_one(parts, rank, from, end),
+    if from >= end {
+        return None;
+    }
+    let to = end.min(u32::MAX as usize) as u32;
+    if let Some(place) = next_of_part(parts, rank, from as u32, to) {
+        return Some(place as usize);
+    }
+    if (to as usize) < end && can_start_at(parts, rank, ObjectId(to)) {
+        Some(to as usize)
+    } else {
+        None
     }
 }

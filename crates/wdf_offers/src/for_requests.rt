@@ -11,12 +11,12 @@ ghost use Rattle.wdf_offers.specs.Search as search;
 
 use crate::candidates::{callback_for, starts_for};
 use crate::idle::is_stopping;
-use crate::started::is_cpu;
 use wdf_base::{Agent, Callback, Cpu, Event, ObjectId, Rank};
 use wdf_lock::lock_of_callback;
 use wdf_parts::Parts;
 use wdf_plan_index::IndexedPlan;
 use wdf_starts::{level_fits, life_fits, rank_ready_for};
+use wdf_steps::is_cpu;
 
 /// A callback of a queue that may be due for many requests at once.
 #[derive(Clone, Copy)]

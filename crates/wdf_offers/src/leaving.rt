@@ -8,19 +8,19 @@ ghost use Rattle.wdf_model.specs.parts.Cpus.{nobody_on};
 ghost use Rattle.wdf_model.specs.parts.Deferred.Timers.{timer_due};
 ghost use Rattle.wdf_model.specs.parts.Deferred.WorkItems.{is_work_queued};
 ghost use Rattle.wdf_sets.specs.Nexts.{IsNext, NoneFrom};
-ghost use Rattle.wdf_offers.specs.Leaving.{DeletedSettled, IsNumbered, IsSettled, event_of, fits_part, fitting, group_of, is_busy, is_kept, is_serial, is_unlocked, leavers, may_leave};
+ghost use Rattle.wdf_offers.specs.Leaving.{DeletedSettled, IsNumbered, IsSettled, event_of, fits_part, fitting, group_of, is_busy, is_kept, is_serial, is_unlocked, leavers};
 ghost use Rattle.wdf_offers.specs.Lesser.{lesser_of};
 ghost use Rattle.wdf_offers.specs.declared.leaving.Leaving.TheVariants as how;
 ghost use Rattle.wdf_offers.specs.Search as search;
 
 use crate::candidates::is_declared_somewhere;
 use crate::idle::DISPATCH_LEVEL;
-use crate::started::is_cpu;
 use wdf_base::{Agent, Callback, ClassInfo, Cpu, Event, Handle, ObjectId, Rank};
 use wdf_model::Group;
 use wdf_parts::Parts;
 use wdf_plan_index::IndexedPlan;
 use wdf_starts::{clean_ready, destroy_ready, level_fits};
+use wdf_steps::is_cpu;
 
 /// How an object leaves.
 #[derive(Clone, Copy)]

@@ -28,4 +28,4 @@ pub use leaving::{Leaving, numbered_at, numbered_len};
 pub use parked::{coming_at, coming_len, is_counted};
 pub use posts::{post_offered, posts_at, posts_len};
 pub use resting::rests;
-pub use started::{is_cpu, start_offered};
+pub use started::start_offered;

@@ -8,10 +8,10 @@ ghost use Rattle.wdf_offers.specs.Parked as parked;
 ghost use Rattle.wdf_offers.specs.Search as search;
 
 use crate::candidates::{parked_len, unparks};
-use crate::started::is_cpu;
 use wdf_base::{Agent, Cpu, Event, LockRef, ObjectId};
 use wdf_parts::Parts;
 use wdf_plan_index::IndexedPlan;
+use wdf_steps::is_cpu;
 
 /// Whether each parked frame waits for a wait lock that is held. Each of these locks is looked at once.
 pub(crate) fn all_blocked<A: Agent>(parts: &Parts<A>) -> bool

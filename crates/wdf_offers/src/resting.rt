@@ -22,6 +22,16 @@ fn none_counted<A: Agent>(parts: &Parts<A>, herd: Option<Herd>) -> bool
     }
 }
 
+/// Whether the callbacks of a rank are due for no request, as one part says: of completion routines no target has a request.
+fn none_due<A: Agent>(parts: &Parts<A>, rank: Rank) -> bool
+    ensures { result ≡ resting.none_due parts.now rank }
+{
+    match rank {
+        Rank::Completion => parts.targets().none_laden(),
+        _ => none_counted(parts, herd_of(rank)),
+    }
+}
+
 /// Whether the callbacks of a rank rest on a processor: it is at DISPATCH_LEVEL or above, at which none for a request
 /// starts; or they are due for no request. Then nothing may come of the groups of the rank for whatever object, and none
 /// of them needs a look.
@@ -31,5 +41,5 @@ pub fn rests<A: Agent>(plan: &IndexedPlan, parts: &Parts<A>, cpu: Cpu, rank: Ran
     ensures none { IsTrue result → (o : ℕ) → search.offered_from plan.now A.meaning parts.now (group.StartsFor cpu.0 rank o) 0 ≡ [] }
 {
     let _ = plan;
-    !level_fits(parts, cpu, DISPATCH_LEVEL) || none_counted(parts, herd_of(rank))
+    !level_fits(parts, cpu, DISPATCH_LEVEL) || none_due(parts, rank)
 }

@@ -1,24 +1,16 @@
 //! The starts that may come. Each is tested before its event is made; the handles made here are proper, so they need no test.
 ghost use Rattle.std.specs.Prelude.{◌≡◌, ◌<◌, ◌^◌, Some, length};
 ghost use Rattle.wdf_base.specs.declared.rank.Rank.TheVariants as rank;
-ghost use Rattle.wdf_model.specs.declared.enums.Group.TheVariants as group;
 ghost use Rattle.wdf_model.specs.rules.Groups as groups;
 ghost use Rattle.wdf_model.specs.rules.Steps as steps;
-ghost use Rattle.wdf_model.specs.parts.Targets as targets;
 ghost use Rattle.wdf_offers.specs.Search as search;
 
-use crate::candidates::{callback_for, starts, starts_for};
+use crate::candidates::{starts, starts_for};
 use wdf_base::{Agent, Callback, Cpu, Event, ObjectId, Rank, Step};
 use wdf_parts::Parts;
 use wdf_plan_index::IndexedPlan;
 use wdf_starts::may_start;
-
-/// Whether it is a processor of the plan.
-pub fn is_cpu(plan: &IndexedPlan, cpu: Cpu) -> bool
-    ensures { result ≡ steps.is_cpu plan.now cpu }
-{
-    cpu.0 < plan.plan().cpus()
-}
+use wdf_steps::is_cpu;
 
 /// Whether a callback may start on an object.
 #[tactic(auto, using(crate::proofs::Begins::start_parts))]

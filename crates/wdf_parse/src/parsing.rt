@@ -1,5 +1,5 @@
 //! A text is read to its scene, or to its first refusal.
-ghost use Rattle.std.specs.Prelude.{◌≡◌, ℕ, ◌+◌, ◌<◌, ◌≤◌, [], length, IfOk, OnOk, IfErr, Ok};
+ghost use Rattle.std.specs.Prelude.{◌≡◌, ◌+◌, ◌<◌, ◌≤◌, [], length, IfOk, OnOk, IfErr, Ok};
 ghost use Rattle.wdf_scene.specs.Written.{IsScene};
 ghost use Rattle.wdf_tokens.specs.Tokens.{lines_of};
 ghost use Rattle.wdf_parse.specs.StandsFor.{StandsFor};

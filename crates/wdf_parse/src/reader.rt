@@ -1,5 +1,5 @@
 //! A text is read line by line.
-ghost use Rattle.std.specs.Prelude.{◌≡◌, ◌+◌, ◌<◌, ◌≤◌, ◌^◌, ◌++◌, ◌∷◌, [], length, drop, map, IfOk, OnOk, IfErr, Ok};
+ghost use Rattle.std.specs.Prelude.{◌≡◌, ◌+◌, ◌<◌, ◌≤◌, ◌^◌, length, map, IfOk, OnOk, IfErr, Ok};
 ghost use Rattle.wdf_scene_lines.specs.Building.{form_line, form_picks};
 ghost use Rattle.wdf_scene_lines.specs.Reading.{number_in, read_written};
 ghost use Rattle.wdf_parse.specs.Picking.{with_line};

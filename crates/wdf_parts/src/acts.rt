@@ -7,15 +7,12 @@ ghost use Rattle.wdf_model.specs.parts.Targets as targets;
 ghost use Rattle.wdf_model.specs.parts.Targets.{sending_of, takes_more};
 ghost use Rattle.wdf_model.specs.rules.Deeds as deeds;
 ghost use Rattle.wdf_model.specs.Tables.{change_at, entry};
-ghost use Rattle.wdf_model.specs.parts.Cpus.{frame_of};
-ghost use Rattle.wdf_cpu.specs.FrameUpdate.{gone};
 ghost use Rattle.wdf_model.specs.rules.Room.{AreDoable, IsDoable, MayGiveUp};
 ghost use Rattle.wdf_parts.specs.List.{lowers};
 
 use crate::list::{Deeds, Lowered};
 use crate::parts::Parts;
-use wdf_base::{Agent, Frame, FrameId, ObjectId, Place, Status};
-use wdf_cpu::FrameUpdate;
+use wdf_base::{Agent, ObjectId, Place, Status};
 use wdf_maps::{entry_at, put_at};
 use wdf_model::Deed;
 use wdf_plan_index::IndexedPlan;

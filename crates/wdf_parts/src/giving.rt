@@ -1,9 +1,9 @@
 //! Requests that the driver gets, gives up and gives back.
-ghost use Rattle.std.specs.Prelude.{◌≡◌, ◌<◌, false, Some, length, unwrap_or, option_map};
+ghost use Rattle.std.specs.Prelude.{◌≡◌, ◌<◌, Some, length, unwrap_or, option_map};
 ghost use Rattle.wdf_model.specs.declared.room.TheConstants.{OBJECTS};
 ghost use Rattle.wdf_model.specs.rules.Deeds as deeds;
 ghost use Rattle.wdf_model.specs.parts.Queues as queues;
-ghost use Rattle.wdf_model.specs.rules.Room.{IsQueue, IsRequest, MayEnter, MayGiveUp, MayHold};
+ghost use Rattle.wdf_model.specs.rules.Room.{MayEnter, MayGiveUp, MayHold};
 
 use crate::parts::Parts;
 use wdf_base::{Agent, ObjectId, Place};

@@ -1,6 +1,8 @@
 //! What is asked of several parts at once.
 ghost use Rattle.std.specs.Prelude.{◌≡◌, option_map};
+ghost use Rattle.wdf_base.specs.Lives.{is_live};
 ghost use Rattle.wdf_model.specs.Tables.{same_id};
+ghost use Rattle.wdf_model.specs.parts.Tree.{life_of};
 ghost use Rattle.wdf_model.specs.State as state;
 
 use crate::parts::Parts;
@@ -108,6 +110,13 @@ impl<A: Agent> Parts<A> {
         ensures { result ≡ state.handle_in plan.now self.now o.0 }
     {
         self.tree.handle(plan.plan(), o)
+    }
+
+    /// Whether an object is live: its deletion wasn't asked. (KMDF)
+    pub fn is_live(&self, o: ObjectId) -> bool
+        ensures { result ≡ is_live (life_of self.now.tree o.0) }
+    {
+        self.tree.life(o).is_live()
     }
 
     /// Whether a handle has its object's name.

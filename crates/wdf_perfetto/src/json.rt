@@ -2,8 +2,8 @@
 ghost use Rattle.std.specs.Prelude.{◌≡◌, ◌^◌, ◌<◌, List, codes, map, length, string_bytes, Some, IfOk};
 ghost use Rattle.serde_json.specs.Data.{object, member, no_members, string};
 ghost use Rattle.serde_json.specs.Read.{read};
-ghost use Rattle.serde_json.specs.View.{view, items_of, members_view};
-ghost use Rattle.wdf_perfetto.specs.Titles.{plain, group_number, group_word, sort_word};
+ghost use Rattle.serde_json.specs.View.{view, members_view};
+ghost use Rattle.wdf_perfetto.specs.Titles.{group_number, group_word, sort_word};
 ghost use Rattle.wdf_perfetto.specs.Rows.{names_data, name_data, slice_data, span_data, mark_data, counter_data, clock_data, count, written, line_written, row_data, document_data};
 
 use crate::members::{Members, with, with_number, with_text};

@@ -1,5 +1,5 @@
 //! What is written on the items of a viewer.
-ghost use Rattle.std.specs.Prelude.{◌≡◌, ◌++◌, map, codes, decimal, string_bytes, OnOk, IfOk};
+ghost use Rattle.std.specs.Prelude.{◌≡◌, ◌++◌, map, decimal, string_bytes, OnOk, IfOk};
 ghost use Rattle.wdf_lines.specs.Lines.{cpu_text, object_text};
 ghost use Rattle.wdf_perfetto.specs.Titles.{plain, title_text, line_at};
 

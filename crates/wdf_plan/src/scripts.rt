@@ -1,8 +1,6 @@
 //! Expressions, statements and scripts with numbers.
-ghost use Rattle.std.specs.Prelude.{◌≡◌, ◌++◌, ◌∷◌, [], ◌+◌, ◌-◌, ◌<◌, ◌≤◌, ◌^◌, IfOk, IfSome, OnOk, length, drop, take, map, count_by, Some};
-ghost use Rattle.std.specs.List.{flat_map};
+ghost use Rattle.std.specs.Prelude.{◌≡◌, ◌++◌, ◌∷◌, [], ◌+◌, ◌-◌, ◌<◌, ◌^◌, IfOk, IfSome, length, drop, take, count_by, Some};
 ghost use Rattle.wdf_plan.specs.Fitting.{IsFitAct, IsFitArgument, IsFitNode, IsFitPlace, IsFitStatement};
-ghost use Rattle.wdf_blocks.specs.Placed.{placed};
 ghost use Rattle.wdf_plan.specs.Scripts as scripts;
 
 use crate::course::{Course, Detour, Nest, kept_way, nest_at, reach};

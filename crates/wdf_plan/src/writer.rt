@@ -1,6 +1,5 @@
 //! The scripts of a plan, with their statements.
-ghost use Rattle.std.specs.Prelude.{◌≡◌, ◌++◌, [], ◌+◌, ◌<◌, ◌^◌, ◌-◌, suc, IfOk, IfSome, OnOk, length, drop, take, map};
-ghost use Rattle.std.specs.List.{flat_map};
+ghost use Rattle.std.specs.Prelude.{◌≡◌, ◌++◌, [], ◌+◌, ◌<◌, ◌^◌, ◌-◌, IfOk, IfSome, OnOk, length, drop, take};
 ghost use Rattle.std.specs.Option.{option_to_list};
 ghost use Rattle.wdf_plan.specs.Fitting.{IsFitDeclared, IsFitScript, IsFitStatement};
 ghost use Rattle.wdf_refusals.specs.Numbered.{Every};

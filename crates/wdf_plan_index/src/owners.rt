@@ -1,6 +1,4 @@
 ghost use Rattle.std.specs.Prelude.{◌≡◌, ◌<◌, length, IfOk};
-ghost use Rattle.wdf_base.specs.Resolved.{app_count};
-ghost use Rattle.wdf_model.specs.Plans as plans;
 ghost use Rattle.wdf_plan_index.specs.Owners as owners;
 
 use std::alloc::Global;

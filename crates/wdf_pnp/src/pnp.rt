@@ -1,19 +1,27 @@
-ghost use Rattle.std.specs.Prelude.{◌≡◌, ℕ, ◌+◌, ◌<◌, IfOk, length};
+ghost use Rattle.std.specs.Prelude.{◌≡◌, ℕ, ◌+◌, ◌<◌, ◌≤◌, IfOk, MatchOption, false, length, nat_lt, replicate, slice_set};
 ghost use Rattle.wdf_model.specs.Tables.{entry};
 ghost use Rattle.wdf_model.specs.parts.Pnp as pnp;
 ghost use Rattle.wdf_pnp.specs.Opening.{sequence_at};
+ghost use Rattle.wdf_pnp.specs.Stepping.{has_steps};
+ghost use Rattle.wdf_sets.specs.Nexts.{IsNext, NoneFrom};
 
 use crate::sequence::Sequence;
 use std::alloc::Global;
 use std::marker::Model;
 use wdf_base::{Ask, Memory, ObjectId, Plan, Step, Value};
 use wdf_model::Phase;
+use wdf_sets::IdSet;
+
+/// A set has room for fewer ids than this.
+const SET_IDS: usize = 0x8000_0000;
 
 /// Plug and Play and power of all devices: the phase of each, and the steps that it has left.
 #[derive(Drop)]
 pub struct Pnp {
     /// By the device's id.
     devices: Vec<Sequence>,
+    /// The devices that have a step left.
+    stepping: IdSet,
 }
 
 impl Model for Pnp {
@@ -21,7 +29,43 @@ impl Model for Pnp {
 
     ghost Value = { pnp.Pnp };
 
+    ghost use Rattle.wdf_pnp.specs.Stepping.{IsStepping};
+
     ghost view = { λ p. record { devices = p.devices.items } };
+
+    ghost invariant = { IsStepping };
+}
+
+/// Each device at the opening of the plan's run. It takes all memory that the sequences need.
+fn opening_devices(alloc: Global, plan: &Plan) -> Result<Vec<Sequence>, Memory>
+    ensures { IfOk result (λ made. made.items ≡ (pnp.opening_pnp plan.now).devices) }
+{
+    let count = 1 + plan.declared_len() as usize;
+    let mut devices = Vec::with_capacity(alloc, count)?;
+    for id in 0..count {
+        devices.push(Sequence::make(alloc, plan, ObjectId(id as u32))?)?;
+    }
+    Ok(devices)
+}
+
+/// The empty set of ids below a bound. More ids than a set has room for are refused as [`Memory`]: the sequences of so many
+/// devices would take hundreds of gigabytes.
+fn empty_set(alloc: Global, bound: usize) -> Result<IdSet, Memory>
+    ensures members { IfOk result (λ set. set ≡ replicate (length set) false) }
+    ensures room { IfOk result (λ set. bound ≤ length set) }
+{
+    if bound >= SET_IDS {
+        return Err(Memory);
+    }
+    Ok(IdSet::make(alloc, bound as u32)?)
+}
+
+/// Notes whether a device has a step left.
+fn note(stepping: &mut IdSet, device: &Sequence, d: ObjectId)
+    requires { d.0 < length stepping.old }
+    ensures { stepping.new ≡ slice_set stepping.old d.0 (nat_lt 0 (length device.now.left)) }
+{
+    stepping.put(d.0, device.steps_left() > 0);
 }
 
 /// Each device is at the opening of a plan's run once more.
@@ -43,12 +87,9 @@ impl Pnp {
     pub fn make(alloc: Global, plan: &Plan) -> Result<Pnp, Memory>
         ensures { IfOk result (λ made. made ≡ pnp.opening_pnp plan.now) }
     {
-        let count = 1 + plan.declared_len() as usize;
-        let mut devices = Vec::with_capacity(alloc, count)?;
-        for id in 0..count {
-            devices.push(Sequence::make(alloc, plan, ObjectId(id as u32))?)?;
-        }
-        Ok(Pnp { devices })
+        let devices = opening_devices(alloc, plan)?;
+        let stepping = empty_set(alloc, devices.len())?;
+        Ok(Pnp { devices, stepping })
     }
 
     /// The opening of a plan's run once more, where the table has the plan's size and the steps of devices are made of
@@ -59,6 +100,7 @@ impl Pnp {
         ensures { self.new ≡ pnp.opening_pnp plan.now }
     {
         begin_all(&mut self.devices, plan);
+        self.stepping.clear();
     }
 
     /// How many entries the table of devices has. It has one for the id 0 and for each declared object.
@@ -86,6 +128,13 @@ impl Pnp {
             Some(device) => device.steps_left(),
             None => 0,
         }
+    }
+
+    /// The first device from an id on, below an end, that has a step left. It doesn't look at each device.
+    pub fn next_stepping(&self, from: u32, end: u32) -> Option<u32>
+        ensures { MatchOption result (NoneFrom (has_steps self.now) from end) (λ id. IsNext (has_steps self.now) from end id) }
+    {
+        self.stepping.next(from, end)
     }
 
     /// The step of a device whose callback runs.
@@ -140,6 +189,7 @@ impl Pnp {
     {
         let device = &mut self.devices[d.0 as usize];
         device.ask(ask);
+        note(&mut self.stepping, device, d);
     }
 
     /// The next step of a device is taken: its callback runs, or the stage is passed.
@@ -150,6 +200,7 @@ impl Pnp {
     {
         let device = &mut self.devices[d.0 as usize];
         device.take();
+        note(&mut self.stepping, device, d);
     }
 
     /// The callback of a step of a device ends with a value. Where a query fails, no step is left. Where
@@ -162,5 +213,6 @@ impl Pnp {
     {
         let device = &mut self.devices[d.0 as usize];
         device.end(step, value);
+        note(&mut self.stepping, device, d);
     }
 }

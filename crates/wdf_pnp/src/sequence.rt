@@ -7,9 +7,7 @@ use crate::lists::{DeviceSteps, self_managed_start};
 use crate::opening::device_steps;
 use std::alloc::Global;
 use std::marker::Model;
-use wdf_base::{
-    Ask, Callback, Memory, ObjectId, Plan, Stage, Status, Step, Value, same_callback, same_status,
-};
+use wdf_base::{Ask, Callback, Memory, ObjectId, Plan, Stage, Step, Value, same_callback};
 use wdf_declared::device_of;
 use wdf_model::Phase;
 
@@ -37,16 +35,6 @@ impl Model for Sequence {
     ghost view = { λ d. record { steps = d.steps; phase = d.phase; ever_working = d.ever_working; left = drop d.taken d.list.items; running = d.running } };
 
     ghost invariant = { λ d. (d.taken ≤ length d.list.items) × (4 * length d.steps.interrupts + 16 ≤ vec_capacity d.list) };
-}
-
-/// Whether a callback ended with SUCCESS.
-fn is_success(value: Value) -> bool
-    ensures { result ≡ pnp.is_success value }
-{
-    match value {
-        Value::Stat(status) => same_status(status, Status::Success),
-        _ => false,
-    }
 }
 
 /// How far a device has come at the opening: one that works is as if a power-up had ended. (own)
@@ -242,7 +230,7 @@ impl Sequence {
     {
         self.running = None;
         if let Step::Run { callback, .. } = step {
-            if !is_success(value) {
+            if !value.is_success() {
                 self.fail(callback);
             }
         }

@@ -1,8 +1,6 @@
 //! Requests that arrive. (KMDF, but for what is marked own)
 ghost use Rattle.std.specs.Prelude.{◌≡◌, ◌+◌, ◌<◌, ◌^◌, ◌∷◌, []};
-ghost use Rattle.wdf_base.specs.Lives.{is_live};
 ghost use Rattle.wdf_model.specs.Tables.{entry};
-ghost use Rattle.wdf_model.specs.parts.Tree.{life_of};
 ghost use Rattle.wdf_model.specs.declared.deed.Deed.TheVariants as Deed;
 ghost use Rattle.wdf_model.specs.rules.Deeds.{do_deeds};
 ghost use Rattle.wdf_model.specs.rules.Posts as posts;
@@ -92,17 +90,11 @@ fn arrival_info<A: Agent>(
     }
 }
 
-fn is_live<A: Agent>(parts: &Parts<A>, o: ObjectId) -> bool
-    ensures { result ≡ is_live (life_of parts.now.tree o.0) }
-{
-    parts.tree().life(o).is_live()
-}
-
 /// The request that an arrival makes; a device that isn't live takes none.
 pub(crate) fn arrival_answer<A: Agent>(parts: &Parts<A>, device: ObjectId) -> Option<Handle>
     ensures { result ≡ posts.arrival_answer parts.now device.0 }
 {
-    if is_live(parts, device) {
+    if parts.is_live(device) {
         Some(Handle {
             id: parts.tree().next_id(),
             name: REQUEST_NAME,
@@ -146,7 +138,7 @@ pub(crate) fn arrival<A: Agent>(
     requires doable { AreDoable plan.now (posts.arrival_deeds plan.now parts.old agent form length code device.0) parts.old }
     ensures { parts.new ≡ do_deeds plan.now (posts.arrival_deeds plan.now parts.old agent form length code device.0) parts.old }
 {
-    if is_live(parts, device) {
+    if parts.is_live(device) {
         arrive(plan, parts, agent, form, length, code, device);
     } else {
         parts.count_arrival(agent);

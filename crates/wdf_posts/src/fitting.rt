@@ -1,6 +1,5 @@
 //! Whether the form of a post fits its agent, and its names are the plan's.
 ghost use Rattle.std.specs.Prelude.{◌≡◌, option_map};
-ghost use Rattle.wdf_base.specs.Places.{is_sent_to};
 ghost use Rattle.wdf_model.specs.rules.Posts as posts;
 
 use crate::planned::{action_fits, is_handle};

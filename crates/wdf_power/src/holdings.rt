@@ -1,7 +1,7 @@
-ghost use Rattle.std.specs.Prelude.{◌≡◌, ◌+◌, ◌<◌, ◌≤◌, IfOk, IfSome, Some, count_by, find, if◌then◌else◌, is_some, length, map, nat_le, option_map, slice_get};
+ghost use Rattle.std.specs.Prelude.{◌≡◌, ◌+◌, ◌<◌, ◌≤◌, IfOk, IfSome, Some, count_by, find, if◌then◌else◌, is_some, length, nat_le, slice_get};
 ghost use Rattle.std.specs.List.{list_any};
 ghost use Rattle.wdf_maps.specs.Counts.{is_at};
-ghost use Rattle.wdf_model.specs.Tables.{entry, least, lesser, put};
+ghost use Rattle.wdf_model.specs.Tables.{least, lesser, put};
 ghost use Rattle.wdf_model.specs.parts.Power as power;
 ghost use Rattle.wdf_power.specs.Held.{AreListed};
 ghost use Rattle.wdf_power.specs.ForQueues.{resuming, resuming_from, resuming_queue, unasked, unasked_from, unasked_queue};

@@ -1,8 +1,10 @@
-ghost use Rattle.std.specs.Prelude.{◌≡◌, ◌+◌, ◌<◌, IfOk, length, true, false};
+ghost use Rattle.std.specs.Prelude.{◌≡◌, ◌+◌, ◌*◌, ◌<◌, IfOk, MatchOption, length, replicate, true, false};
+ghost use Rattle.std.specs.Int.{div_ceil};
 ghost use Rattle.wdf_model.specs.declared.enums.Mode.TheVariants.{Started, Stopped, Drained, Purged};
 ghost use Rattle.wdf_model.specs.Tables.{put};
 ghost use Rattle.wdf_model.specs.parts.Control as control;
-ghost use Rattle.wdf_model.specs.parts.Control.{no_control};
+ghost use Rattle.wdf_model.specs.parts.Control.{no_control, notify_due};
+ghost use Rattle.wdf_sets.specs.Nexts.{IsNext, NoneFrom};
 ghost use Rattle.wdf_qctl.specs.Kept.{seen};
 
 use crate::modes::{NO_CONTROL, accepts_in, delivers_in, opening_controls, write_controls};
@@ -11,6 +13,10 @@ use std::marker::Model;
 use wdf_base::{Memory, ObjectId, Plan};
 use wdf_maps::{entry_at, put_at};
 use wdf_model::{Mode, QueueControl};
+use wdf_sets::IdSet;
+
+/// For so many ids there is no set.
+const TOO_MANY: usize = 0x8000_0000;
 
 /// The modes of the queues, their notification, and the devices that are closed.
 #[derive(Drop)]
@@ -20,6 +26,9 @@ pub struct Control {
     kept: Vec<QueueControl>,
     /// Whether a device is closed, by its id, as far as one was.
     closed: Vec<bool>,
+    /// The queues for which EvtIoQueueState is due. A write of what is kept of a queue writes it here; the closing of a device
+    /// changes no notification.
+    due: IdSet,
 }
 
 impl Model for Control {
@@ -32,6 +41,17 @@ impl Model for Control {
     ghost view = { control_in };
 
     ghost invariant = { IsSound };
+}
+
+/// The empty set, with room for as many ids. No set has room for [`TOO_MANY`]: where a table has as many, which no scenario's
+/// plan comes near, it is refused as [`Memory`].
+fn empty_set(alloc: Global, ids: usize) -> Result<IdSet, Memory>
+    ensures { IfOk result (λ set. set ≡ replicate (4096 * div_ceil ids 4096) false) }
+{
+    if ids >= TOO_MANY {
+        return Err(Memory);
+    }
+    IdSet::make(alloc, ids as u32)
 }
 
 /// What is kept of a queue, as it is where these devices are closed.
@@ -56,7 +76,8 @@ impl Control {
     {
         let kept = opening_controls(alloc, plan)?;
         let closed = Vec::with_capacity(alloc, kept.len())?;
-        Ok(Control { kept, closed })
+        let due = empty_set(alloc, kept.len())?;
+        Ok(Control { kept, closed, due })
     }
 
     /// The control at the opening of a plan's run once more, of as many ids.
@@ -65,6 +86,7 @@ impl Control {
         ensures { self.new ≡ control.opening_control plan.now }
     {
         self.closed.clear();
+        self.due.clear();
         write_controls(&mut self.kept, plan);
     }
 
@@ -119,6 +141,13 @@ impl Control {
         self.control_of(q).due
     }
 
+    /// The first queue from an id on, below an end, for which EvtIoQueueState is due, found without a look at each id.
+    pub fn next_notify_due(&self, from: u32, end: u32) -> Option<u32>
+        ensures { MatchOption result (NoneFrom (notify_due self.now) from end) (λ id. IsNext (notify_due self.now) from end id) }
+    {
+        self.due.next(from, end)
+    }
+
     /// Writes what is kept of a queue.
     fn write(&mut self, q: ObjectId, control: QueueControl)
         requires there { q.0 < length self.old.controls }
@@ -127,6 +156,7 @@ impl Control {
         ensures size { length self.new.controls ≡ length self.old.controls }
     {
         self.kept[q.0 as usize] = control;
+        self.due.put(q.0, control.due);
     }
 
     /// A control call: the queue's mode is this one, but a closed device's queues stay Purged.

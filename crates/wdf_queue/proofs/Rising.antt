@@ -76,7 +76,7 @@ marked_without marks lists r h p e =
     rw (entry_map [] lists (without r) p refl) (kept (λ other. not (other == r)) 0 OBJECTS (entry [] lists p) (h p e))
 
 -- nobody waits
-empty_at : (n p : ℕ) → entry {T = List ℕ} [] (replicate n []) p ≡ []
+pub empty_at : (n p : ℕ) → entry {T = List ℕ} [] (replicate n []) p ≡ []
 empty_at zero p = refl
 empty_at (suc n) zero = refl
 empty_at (suc n) (suc p) = empty_at n p

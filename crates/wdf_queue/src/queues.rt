@@ -1,8 +1,10 @@
-ghost use Rattle.std.specs.Prelude.{◌≡◌, ℕ, ◌+◌, ◌<◌, ◌≤◌, ◌++◌, ◌∷◌, [], IfOk, IsTrue, None, Some, if◌then◌else◌, drop, false, is_some, length, option_map, replicate, slice_get, true};
+ghost use Rattle.std.specs.Prelude.{◌≡◌, ℕ, ◌+◌, ◌&&◌, ◌<◌, ◌≤◌, ◌++◌, ◌∷◌, [], IfOk, IsTrue, MatchOption, None, Some, if◌then◌else◌, drop, false, is_some, length, not, option_map, replicate, slice_get, slice_set, true};
 ghost use Rattle.wdf_maps.specs.Places.{rises};
+ghost use Rattle.wdf_sets.specs.Nexts.{IsNext, NoneFrom};
 ghost use Rattle.wdf_model.specs.Tables.{put};
 ghost use Rattle.wdf_model.specs.parts.Queues as queues;
 ghost use Rattle.wdf_model.specs.parts.Queues.{held_count, held_in, is_waiting, waiting_in};
+ghost use Rattle.wdf_queue.specs.Queues.{presents};
 
 use crate::dispatch::{is_free_by, opening_dispatches, write_dispatches};
 use std::alloc::Global;
@@ -11,6 +13,7 @@ use wdf_base::{DispatchKind, Memory, ObjectId, Plan};
 use wdf_ilist::Links;
 use wdf_maps::{entry_at, object_at};
 use wdf_model::{EVENTS, OBJECTS};
+use wdf_sets::IdSet;
 
 /// Who waits in which queue, and how many requests the driver holds from each. A request waits in
 /// one queue at most. Each call but [`Queues::make`] takes no memory.
@@ -24,6 +27,8 @@ pub struct Queues {
     held: Vec<u32>,
     /// Whether the waiting list of each queue is known to rise, by id. False says nothing.
     rising: Vec<bool>,
+    /// The queues that present one request more now.
+    presentable: IdSet,
 }
 
 impl Model for Queues {
@@ -51,6 +56,7 @@ impl Queues {
             waiting: Links::make(alloc, ids, OBJECTS)?,
             held: no_counts(alloc, ids as usize)?,
             rising: all_rising(alloc, ids as usize)?,
+            presentable: IdSet::make(alloc, ids)?,
         })
     }
 
@@ -62,6 +68,7 @@ impl Queues {
         self.waiting.clear();
         zero_counts(&mut self.held);
         write_dispatches(&mut self.dispatch, plan);
+        self.presentable.clear();
     }
 
     /// The request at the front of a queue, `None` exactly where none waits there.
@@ -137,6 +144,13 @@ impl Queues {
         is_free_by(dispatch, self.held_count(q))
     }
 
+    /// The first queue from an id on, below an end, that presents one request more now; `None` where there is none.
+    pub fn next_presentable(&self, from: u32, end: u32) -> Option<u32>
+        ensures { MatchOption result (NoneFrom (presents self.now) from end) (λ id. IsNext (presents self.now) from end id) }
+    {
+        self.presentable.next(from, end)
+    }
+
     /// Whether a queue's requests are known to rise by id with this one at the tail.
     #[tactic(auto, using(crate::proofs::Rising::alone_last, crate::proofs::Rising::with_last))]
     fn rises_with_last(&self, q: ObjectId, r: ObjectId) -> bool
@@ -168,8 +182,10 @@ impl Queues {
         requires apart { is_waiting self.old r.0 ≡ false }
         ensures { self.new ≡ queues.enter self.old q.0 r.0 }
     {
+        let is_free = self.is_free(q);
         self.rising[q.0 as usize] = self.rises_with_last(q, r);
         self.waiting.push_back(q.0, r.0);
+        self.presentable.put(q.0, is_free);
     }
 
     /// A request enters a queue at the head.
@@ -180,8 +196,10 @@ impl Queues {
         requires apart { is_waiting self.old r.0 ≡ false }
         ensures { self.new ≡ queues.requeue self.old q.0 r.0 }
     {
+        let is_free = self.is_free(q);
         self.rising[q.0 as usize] = self.rises_with_first(q, r);
         self.waiting.push_front(q.0, r.0);
+        self.presentable.put(q.0, is_free);
     }
 
     /// The front of a queue leaves it, and counts as held. `None` where none waits there, and then
@@ -206,7 +224,10 @@ impl Queues {
         ensures rest { self.new ≡ queues.with_waiting self.old q.0 (drop 1) }
         ensures size { length self.new.waiting ≡ length self.old.waiting }
     {
+        let is_free = self.is_free(q);
         let _front = self.waiting.pop_front(q.0);
+        let is_empty = self.waiting.is_empty(q.0);
+        note(&mut self.presentable, q.0, is_empty, is_free);
     }
 
     /// The driver holds one request more from a queue.
@@ -237,7 +258,11 @@ impl Queues {
         ensures done { self.new ≡ record self.old { held = put 0 self.old.held q.0 held } }
         ensures many { held_in self.new + held_count self.old q.0 ≡ held_in self.old + held }
     {
+        let is_empty = self.is_empty(q);
+        let dispatch = entry_at(&self.dispatch, DispatchKind::Manual, q.0);
         self.held[q.0 as usize] = held;
+        let is_free = is_free_by(dispatch, held);
+        note(&mut self.presentable, q.0, is_empty, is_free);
     }
 
     /// A request leaves the queue in which it waits: false, and nothing changes, exactly where it
@@ -246,7 +271,14 @@ impl Queues {
         ensures found { result ≡ is_waiting self.old r.0 }
         ensures done { self.new ≡ queues.take_cancelled self.old r.0 }
     {
-        self.waiting.unlink(r.0).is_some()
+        let Some(q) = self.waiting.owner(r.0) else {
+            return false
+        };
+        let is_free = self.is_free(ObjectId(q));
+        let _list = self.waiting.unlink(r.0);
+        let is_empty = self.waiting.is_empty(q);
+        note(&mut self.presentable, q, is_empty, is_free);
+        true
     }
 
     /// Nothing waits in a queue any more.
@@ -259,6 +291,14 @@ impl Queues {
             self.drop_front(q);
         }
     }
+}
+
+/// Notes whether a queue presents one request more now: some wait, and it is free.
+fn note(presentable: &mut IdSet, q: u32, is_empty: bool, is_free: bool)
+    requires { q < length presentable.old }
+    ensures { presentable.new ≡ slice_set presentable.old q (not is_empty && is_free) }
+{
+    presentable.put(q, !is_empty && is_free);
 }
 
 /// Every count is 0 again.

@@ -7,9 +7,9 @@ ghost use Rattle.wdf_offers.specs.Search as search;
 use crate::blocks::{Block, Blocks};
 use wdf_base::{Agent, Cpu, Rank};
 use wdf_model::Group;
-use wdf_offers::is_cpu;
 use wdf_parts::Parts;
 use wdf_plan_index::IndexedPlan;
+use wdf_steps::is_cpu;
 
 /// How many blocks are of no processor: stages, completions, cleanups, destructions and posts.
 const OF_NO_PROCESSOR: usize = 5;

@@ -8,10 +8,10 @@ ghost use Rattle.law_machine_places.specs.Placed.{IsAmong};
 ghost use Rattle.wdf_model.specs.rules.Ready.{allowed};
 
 use wdf_base::{Agent, Callback, Event, Handle, ObjectId, Rank, Step, same_callback};
-use wdf_offers::{declared_end, is_cpu, places_for, places_of_rank};
+use wdf_offers::{declared_end, places_for, places_of_rank};
 use wdf_parts::Parts;
 use wdf_plan_index::IndexedPlan;
-use wdf_steps::may;
+use wdf_steps::{is_cpu, may};
 
 /// Whether an id is one of what is declared.
 fn is_declared_id(plan: &IndexedPlan, o: ObjectId) -> bool

@@ -62,9 +62,8 @@ fn offered<A: Agent>(
     }
 }
 
-/// The first place from one on at which a callback of a rank can start on a processor. Cleanup and destroy callbacks go
-/// by sets: what has its turn or is cleaned, and isn't an arrived request. Timers go by the set of the due ones. For other
-/// ranks each place is asked of one part.
+/// The first place from one on at which a callback of a rank can start on a processor. It goes by the sets of the parts,
+/// without a look at each place.
 fn next_start<A: Agent>(
     plan: &IndexedPlan,
     parts: &Parts<A>,

@@ -19,7 +19,6 @@ use wdf_blocks::declaration::{Declaration, declared_by};
 use wdf_blocks::placed::Placed;
 use wdf_blocks::variables::{Variables, entered};
 use wdf_blocks::walk::Lines;
-use wdf_scene::Scene;
 
 #[tactic(auto, unfolding(crate::specs::First::refused))]
 fn refused(

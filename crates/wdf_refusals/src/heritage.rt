@@ -1,5 +1,5 @@
 //! The levels and scopes of devices and queues: their own, or what they inherit.
-ghost use Rattle.std.specs.Prelude.{◌≡◌, IfOk, IfSome, Some, slice_get, option_and_then};
+ghost use Rattle.std.specs.Prelude.{◌≡◌, IfOk, Some, slice_get, option_and_then};
 ghost use Rattle.wdf_blocks.specs.Blocks as blocks;
 ghost use Rattle.wdf_refusals.specs.Heritage as spec;
 

@@ -1,8 +1,7 @@
 //! The names that a scene declares, with what each is.
-ghost use Rattle.std.specs.Prelude.{◌≡◌, IsTrue, ◌++◌, ◌∷◌, [], ◌+◌, is_ok, if◌then◌else◌, position, find, drop, IfSome, ◌<◌, ◌^◌, length, option_map, List, ℕ, OnOk, OnErr, slice_get};
+ghost use Rattle.std.specs.Prelude.{◌≡◌, IsTrue, ◌++◌, ◌∷◌, [], ◌+◌, is_ok, if◌then◌else◌, find, drop, IfSome, ◌<◌, ◌^◌, length, List, ℕ, OnOk, OnErr, slice_get};
 ghost use Rattle.indexmap.specs.IndexMap.{get, IsUnchanged};
 ghost use Rattle.wdf_refusals.specs.Names.{or_last, passes_at, place_from};
-ghost use Rattle.std.specs.List.{list_any};
 ghost use Rattle.std.specs.Str.{bytes_eq};
 ghost use Rattle.wdf_blocks.specs.Declarations as spec;
 ghost use Rattle.wdf_refusals.specs.Numbered.{HasFitOrder};

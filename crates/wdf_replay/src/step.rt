@@ -1,7 +1,7 @@
 //! One line of a trace, after the lines of a run so far.
-ghost use Rattle.std.specs.Prelude.{◌≡◌, ◌≢◌, ◌↔◌, ◌+◌, ◌^◌, ◌<◌, ◌≤◌, ◌++◌, ◌∷◌, ◌⊎◌, [], length, slice_get, Some, IfSome, IfNone, IfOk, IfErr, IsTrue, IsFalse};
+ghost use Rattle.std.specs.Prelude.{◌≡◌, ◌≢◌, ◌↔◌, ◌+◌, ◌^◌, ◌<◌, ◌≤◌, ◌++◌, ◌∷◌, ◌⊎◌, [], length, slice_get, Some, IsTrue, IsFalse};
 ghost use Rattle.wdf_base.specs.Resolved.{IsResolved};
-ghost use Rattle.wdf_model.specs.rules.Ready.{IsRunOf, ending_of, ready};
+ghost use Rattle.wdf_model.specs.rules.Ready.{ending_of, ready};
 ghost use Rattle.wdf_lines.specs.Endings.{ending_text, wait_text};
 ghost use Rattle.wdf_trace.specs.Waits.{IsEndingText};
 ghost use Rattle.wdf_run_text.specs.Lines.{fed};

@@ -1,4 +1,4 @@
-ghost use Rattle.std.specs.Prelude.{◌≡◌, ◌+◌, ◌<◌, ◌^◌, IfOk, false, length, map, replicate, slice_index_or, slice_set};
+ghost use Rattle.std.specs.Prelude.{◌≡◌, ◌+◌, ◌<◌, ◌^◌, IfOk, false, length, map, replicate, slice_set};
 ghost use Rattle.wdf_model.specs.Tables.{entry};
 ghost use Rattle.wdf_request.specs.Arrivals.{emptied, has_slot as has_slot_for, is_sure as is_sure_of, noted, opening_arrivals, slot as slot_for};
 

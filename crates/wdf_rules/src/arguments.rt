@@ -7,16 +7,6 @@ use crate::view::View;
 use wdf_base::{Arg, Call, Kind, Sort, Value};
 use wdf_same::same_kind;
 
-/// Whether an argument is this number.
-pub fn is_number(argument: Arg, number: u64) -> bool
-    ensures { result ≡ faults.arg_is argument number }
-{
-    match argument {
-        Arg::Val(Value::Num(n)) => n == number,
-        _ => false,
-    }
-}
-
 /// Whether a call's row calls an argument of this sort an object.
 fn is_object_sort(sort: Sort) -> bool
     ensures { result ≡ faults.is_object_sort sort }

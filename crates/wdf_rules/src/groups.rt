@@ -1,11 +1,9 @@
 //! Groups of calls, and what each needs of its request or lock.
 ghost use Rattle.std.specs.Prelude.{◌≡◌};
 ghost use Rattle.wdf_base.specs.Calls as calls;
-ghost use Rattle.wdf_base.specs.Places.{is_owned};
 ghost use Rattle.wdf_model.specs.Tables as tables;
 ghost use Rattle.wdf_model.specs.rules.Faults as faults;
 
-use crate::arguments::is_number;
 use crate::view::View;
 use wdf_base::{
     Call, CallKind, CallLevel, Callback, Handle, Kind, LockRef, ObjectId, same_callback,
@@ -33,7 +31,7 @@ fn is_return_at_stop(call: &Call) -> bool
     ensures { result ≡ faults.is_return_at_stop call.now }
 {
     match call.kind {
-        CallKind::WdfRequestStopAcknowledge => !is_number(call.b, 0),
+        CallKind::WdfRequestStopAcknowledge => !call.b.is_number(0),
         _ => false,
     }
 }
@@ -60,7 +58,7 @@ pub fn waits_for_others(call: &Call) -> bool
         | CallKind::WdfIoQueueDrainSynchronously
         | CallKind::WdfIoQueuePurgeSynchronously
         | CallKind::WdfWorkItemFlush => true,
-        CallKind::WdfDpcCancel | CallKind::WdfTimerStop => !is_number(call.b, 0),
+        CallKind::WdfDpcCancel | CallKind::WdfTimerStop => !call.b.is_number(0),
         _ => false,
     }
 }
@@ -72,13 +70,7 @@ pub fn greatest_level<V: View>(view: &V, call: &Call) -> u8
     match call.kind.signature().level {
         CallLevel::AtMost(level) => level.0,
         CallLevel::OfInterrupt => view.level_of(object_in(call.a)).0,
-        CallLevel::DispatchIf(n) => {
-            if is_number(call.b, u64::from(n)) {
-                2
-            } else {
-                0
-            }
-        }
+        CallLevel::DispatchIf(n) => { if call.b.is_number(u64::from(n)) { 2 } else { 0 } }
     }
 }
 
@@ -160,6 +152,6 @@ pub fn forgets_made<V: View>(view: &V, call: &Call) -> bool
     ensures { result ≡ faults.forgets_made (V.seen view.now) call.now }
 {
     same_call_kind(call.kind, CallKind::WdfRequestSend)
-        && is_number(call.c, 1)
+        && call.c.is_number(1)
         && same_kind(view.kind(object_in(call.a)), Kind::Made)
 }

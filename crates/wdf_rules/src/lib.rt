@@ -15,6 +15,5 @@ mod faults;
 mod groups;
 mod view;
 
-pub use arguments::is_number;
 pub use faults::fault_of;
 pub use view::View;

@@ -2,7 +2,6 @@
 ghost use Rattle.std.specs.Prelude.{◌≡◌, ◌↔◌, IsTrue};
 ghost use Rattle.wdf_base.specs.Same as same;
 
-use crate::events::same_step;
 use wdf_base::{Cause, OpenThing, WaitLine};
 
 /// Whether the two open things are one.

@@ -1,4 +1,4 @@
-ghost use Rattle.std.specs.Prelude.{◌≡◌, ◌+◌, ◌<◌, length, Some, slice_get, option_map};
+ghost use Rattle.std.specs.Prelude.{◌≡◌, ◌<◌, length, Some, slice_get, option_map};
 ghost use Rattle.wdf_scene.specs.Scene.{picks_of};
 
 use crate::line::{NumberedLine, SceneExpr, SceneLine};

@@ -1,7 +1,7 @@
 //! Expressions and the arguments of calls are read into the scene.
 ghost use Rattle.std.specs.Prelude.{◌≡◌, ◌+◌, ◌<◌, ◌≤◌, ◌^◌, length, IfOk, OnOk, option_map, drop};
 ghost use Rattle.wdf_scene.specs.Written.{atom_node};
-ghost use Rattle.wdf_scene_lines.specs.Reading.{atom_of, atom_in, word_atom, first_token, read_tree, left_read, leaf_read, read_argument, valued_read, class_read, name_in};
+ghost use Rattle.wdf_scene_lines.specs.Reading.{atom_of, atom_in, word_atom, first_token, read_tree, left_read, leaf_read, read_argument, valued_read};
 ghost use Rattle.wdf_scene_lines.specs.Building.{IsTreeRead, IsArgumentRead};
 
 use crate::cursor::Cursor;

@@ -1,6 +1,5 @@
 //! The line forms without expressions: what the tokens after the first word are.
 ghost use Rattle.std.specs.Prelude.{◌≡◌};
-ghost use Rattle.wdf_tokens.specs.Keywords.{keyword_of};
 ghost use Rattle.wdf_scene_lines.specs.Forms as forms;
 
 use wdf_base::{

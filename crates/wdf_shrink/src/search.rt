@@ -1,5 +1,5 @@
 //! The search for plainer picks. Each step tries picks, and takes them where their run ends as the goal says.
-ghost use Rattle.std.specs.Prelude.{◌≡◌, OnOk};
+ghost use Rattle.std.specs.Prelude.{OnOk};
 ghost use Rattle.wdf_scene.specs.Naming.{HasProperNames};
 ghost use Rattle.wdf_scene.specs.Written.{IsScene};
 ghost use Rattle.wdf_shrink.specs.Stories.{IsStory};

@@ -1,7 +1,7 @@
 //! The text of a story.
-ghost use Rattle.std.specs.Prelude.{◌≡◌, ◌++◌, ◌∷◌, [], IfOk, OnOk, codes, decimal, false};
+ghost use Rattle.std.specs.Prelude.{◌≡◌, ◌++◌, IfOk, OnOk, false};
 ghost use Rattle.wdf_parse.specs.Printing.{version_text};
-ghost use Rattle.wdf_shrink.specs.Texts.{block_text, inside_after, is_end, is_order, order_text, outside_text, outside_texts, picks_text, story_text};
+ghost use Rattle.wdf_shrink.specs.Texts.{block_text, inside_after, is_order, order_text, outside_text, outside_texts, picks_text, story_text};
 
 use itoa::Buffer;
 use std::alloc::Global;

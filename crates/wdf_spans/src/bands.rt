@@ -1,5 +1,5 @@
 //! The bands of a run: what holds of a device or a queue, from where to where.
-ghost use Rattle.std.specs.Prelude.{◌≡◌, ◌++◌, ◌^◌, ◌<◌, drop, length, IfOk};
+ghost use Rattle.std.specs.Prelude.{◌≡◌, ◌^◌, ◌<◌, length, IfOk};
 ghost use Rattle.wdf_spans.specs.Bands.{is_about, phase_by_stage, power_by_stage, delivery_by_stage, mode_by_stage, by_stage, by_start, by_end, by_call, told_by_call, told, number, turned, next, piece, pieces_of, opening, device_band, queue_band};
 ghost use Rattle.wdf_spans.specs.Words.{standing_word};
 

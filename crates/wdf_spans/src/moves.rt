@@ -4,7 +4,7 @@ ghost use Rattle.wdf_spans.specs.Words.{place_word};
 
 use wdf_base::{
     Arg, Call, CallKind, Callback, Declared, DispatchKind, Event, Handle, ObjectId, Plan, Post,
-    QueueInfo, Status, Value,
+    QueueInfo, Value,
 };
 
 /// Where a request is told to be.
@@ -86,17 +86,6 @@ pub(crate) fn id_in(argument: Arg) -> Option<ObjectId> {
     }
 }
 
-fn is_success(answer: Value) -> bool {
-    matches!(answer, Value::Stat(Status::Success))
-}
-
-fn is_number(argument: Arg, number: u64) -> bool {
-    match argument {
-        Arg::Val(Value::Num(value)) => value == number,
-        _ => false,
-    }
-}
-
 /// Whether a callback gets a request out of its queue.
 fn is_presenting(callback: Callback) -> bool {
     matches!(
@@ -130,7 +119,7 @@ fn told_by_success(call: &Call, request: Handle) -> Option<Move> {
             moved(request, Way::Forwarded(queue))
         }
         CallKind::WdfRequestStopAcknowledge => {
-            if is_number(call.b, 0) {
+            if call.b.is_number(0) {
                 None
             } else {
                 moved(request, Way::Requeued)
@@ -146,9 +135,9 @@ fn told_by_call(call: &Call, answer: Value) -> Option<Move> {
     if matches!(call.kind, CallKind::WdfRequestComplete) {
         moved(request, Way::Completed)
     } else if matches!(call.kind, CallKind::WdfRequestSend) && matches!(answer, Value::Num(1)) {
-        let forgotten = is_number(call.c, 1);
+        let forgotten = call.c.is_number(1);
         moved(request, Way::Sent { forgotten })
-    } else if is_success(answer) {
+    } else if answer.is_success() {
         told_by_success(call, request)
     } else {
         None

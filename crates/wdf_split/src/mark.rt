@@ -4,20 +4,10 @@ ghost use Rattle.std.specs.List.{list_all, take_while};
 ghost use Rattle.wdf_tokens.specs.Tokens.{is_plain, is_blank};
 ghost use Rattle.wdf_split.specs.Inputs.{is_idle, is_mark, is_trace_alone, is_within};
 
+use wdf_tokens::{is_blank, is_plain};
+
 /// The word that a line between a scenario and a trace is.
 const TRACE: &[u8] = b"trace";
-
-fn is_plain(byte: u8) -> bool
-    ensures { result ≡ is_plain byte }
-{
-    matches!(byte, b'\t' | b'\n' | b'\r' | b' '..=b'~')
-}
-
-fn is_blank(byte: u8) -> bool
-    ensures { result ≡ is_blank byte }
-{
-    matches!(byte, b' ' | b'\t' | b'\r')
-}
 
 fn blanks_len(text: &[u8]) -> usize
     ensures { result ≡ length (take_while is_blank text.now) }

@@ -1,10 +1,8 @@
-ghost use Rattle.std.specs.Prelude.{◌≡◌, ◌≤◌, ◌==◌, ◌-◌, count_by, filter, length, map, not, slice_get, sum_by, take, vec_capacity, IfOk};
-ghost use Rattle.std.specs.List.{filter_map};
+ghost use Rattle.std.specs.Prelude.{◌≡◌, ◌==◌, ◌-◌, count_by, length, sum_by, IfOk};
 ghost use Rattle.wdf_base.specs.declared.declared.PostLine.{PostLine};
 ghost use Rattle.wdf_base.specs.declared.script.AgentInfo.{AgentInfo};
 ghost use Rattle.wdf_base.specs.Posts as posts;
 ghost use Rattle.wdf_model.specs.Plans.{first_device_agent};
-ghost use Rattle.wdf_model.specs.Tables as tables;
 ghost use Rattle.wdf_model.specs.agents.Connector as connector;
 ghost use Rattle.wdf_model.specs.agents.LowerTarget as target;
 
@@ -17,7 +15,7 @@ use wdf_base::{
     Value,
 };
 use wdf_declared::target_of;
-use wdf_dev::{handle_in, is_zero, names};
+use wdf_dev::{handle_in, names};
 use wdf_maps::Rising;
 use wdf_model::{Arrival, object_in};
 use wdf_same::same_value;
@@ -48,7 +46,7 @@ pub struct Connector {
 }
 
 impl Model for Connector {
-    ghost use Rattle.std.specs.Prelude.{◌≡◌, ◌≤◌, vec_capacity};
+    ghost use Rattle.std.specs.Prelude.{◌≡◌};
     ghost use Rattle.wdf_model.specs.agents.Connector.{Connector};
 
     ghost Value = { Connector };
@@ -192,7 +190,7 @@ impl Connector {
     fn note_stop(&mut self, call: &Call)
         ensures { self.new ≡ connector.stop_called self.old call.now }
     {
-        if names(call.a, self.target) && is_zero(call.b) {
+        if names(call.a, self.target) && call.b.is_number(0) {
             self.line.cancel_all();
         }
     }

@@ -8,7 +8,7 @@
 //!   span is one place. One that leaves elsewhere makes the spans of the others wider by one place.
 //! - **Why a span, where a request is in the line once?** That it is sent once at a time is a law of runs, and an agent hears
 //!   any events. A span has all places of its key, so the line is the definition's without a premise.
-ghost use Rattle.std.specs.Prelude.{◌≡◌, ◌≤◌, ◌<◌, ◌==◌, ◌-◌, ◌+◌, ◌++◌, ◌∷◌, [], filter, length, map, min, nat_lt, vec_capacity, IfOk, true, false};
+ghost use Rattle.std.specs.Prelude.{◌≡◌, ◌≤◌, ◌<◌, ◌-◌, ◌+◌, ◌++◌, ◌∷◌, [], filter, length, map, min, nat_lt, vec_capacity, IfOk, true, false};
 ghost use Rattle.std.specs.List.{filter_map};
 ghost use Rattle.wdf_model.specs.Tables as tables;
 ghost use Rattle.wdf_model.specs.agents.Connector as connector;

@@ -10,7 +10,7 @@ use std::alloc::Global;
 use std::marker::Model;
 use wdf_base::{
     Ask, Callback, Event, Handle, Items, MANY, Memory, ObjectId, Plan, Post, PostLine, Stage,
-    Status, Value, same_object_id,
+    Value, same_object_id,
 };
 use wdf_declared::device_of;
 use wdf_model::{AskPost, Phase, StackDevice};
@@ -273,13 +273,6 @@ fn set_phase(devices: &mut [StackDevice], device: ObjectId, phase: Phase)
     }
 }
 
-/// Whether a callback's value is SUCCESS.
-fn is_success(value: Value) -> bool
-    ensures { result ≡ pnp.is_success value }
-{
-    matches!(value, Value::Stat(Status::Success))
-}
-
 impl StackManager {
     /// The manager before its first line.
     pub fn make(
@@ -401,7 +394,7 @@ impl StackManager {
     fn note_query(&mut self, callback: Callback, device: ObjectId, value: Value)
         ensures { self.new ≡ manager.query_ended self.old callback device.0 value }
     {
-        if callback.is_query() && !is_success(value) && self.awaits(device) {
+        if callback.is_query() && !value.is_success() && self.awaits(device) {
             self.end_post(true);
         }
     }

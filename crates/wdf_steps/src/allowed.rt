@@ -6,9 +6,7 @@ ghost use Rattle.wdf_model.specs.parts.Cpus.{top};
 ghost use Rattle.wdf_model.specs.rules.Steps as steps;
 
 use crate::own::{own_event, wait_is_over, waits_on};
-use wdf_base::{
-    Agent, Callback, Cpu, Event, FrameId, Handle, ObjectId, Place, Status, same_status,
-};
+use wdf_base::{Agent, Callback, Cpu, Event, FrameId, Handle, Place, Status, same_status};
 use wdf_parts::Parts;
 use wdf_plan_index::IndexedPlan;
 use wdf_posts::may_post;
@@ -45,7 +43,7 @@ fn is_proper_if_any<A: Agent>(plan: &IndexedPlan, parts: &Parts<A>, handle: Opti
 }
 
 /// Whether it is a processor of the plan.
-fn is_cpu(plan: &IndexedPlan, cpu: Cpu) -> bool
+pub fn is_cpu(plan: &IndexedPlan, cpu: Cpu) -> bool
     ensures { result ≡ steps.is_cpu plan.now cpu }
 {
     cpu.0 < plan.plan().cpus()

@@ -13,6 +13,6 @@ mod own;
 mod taking;
 mod view;
 
-pub use allowed::{may, may_park, may_unpark};
+pub use allowed::{is_cpu, may, may_park, may_unpark};
 pub use own::{own_event, wait_is_over, waits_on};
 pub use taking::step;

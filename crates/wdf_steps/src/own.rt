@@ -101,7 +101,12 @@ fn fault_in<A: Agent>(
 {
     let view = TopFrame {
         plan,
-        parts,
+        tree: parts.tree(),
+        requests: parts.requests(),
+        targets: parts.targets(),
+        power: parts.power(),
+        cpus: parts.cpus(),
+        locks: parts.locks(),
         cpu,
         number,
     };

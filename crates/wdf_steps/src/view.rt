@@ -1,28 +1,36 @@
 //! What a top frame sees of the state: what the table of faults reads.
-ghost use Rattle.std.specs.Prelude.{◌≡◌};
+ghost use Rattle.wdf_steps.specs.Seen.{seen_by};
 
-use wdf_base::{Agent, Cpu, Frame, FrameId, Irql, Kind, Life, LockRef, Mark, ObjectId, Place};
-use wdf_lock::scope_of_object;
-use wdf_parts::Parts;
+use wdf_base::{Cpu, Frame, FrameId, Irql, Kind, Life, LockRef, Mark, ObjectId, Place};
+use wdf_cpu::Cpus;
+use wdf_lock::{Locks, scope_of_object};
 use wdf_plan_index::IndexedPlan;
+use wdf_power::Power;
+use wdf_request::Requests;
 use wdf_rules::View;
+use wdf_target::Targets;
+use wdf_tree::Tree;
 
-/// The top frame of a processor in a state.
+/// The top frame of a processor, with the parts of the state by which its faults are judged. The other parts and the agents
+/// aren't among them, so this is of one type, whatever the agents are.
 #[derive(Drop)]
-pub(crate) struct TopFrame<'a, A: Agent> {
+pub(crate) struct TopFrame<'a> {
     pub(crate) plan: &'a IndexedPlan,
-    pub(crate) parts: &'a Parts<A>,
+    pub(crate) tree: &'a Tree,
+    pub(crate) requests: &'a Requests,
+    pub(crate) targets: &'a Targets,
+    pub(crate) power: &'a Power,
+    pub(crate) cpus: &'a Cpus,
+    pub(crate) locks: &'a Locks,
     pub(crate) cpu: Cpu,
     pub(crate) number: FrameId,
 }
 
-impl<A: Agent> View for TopFrame<'_, A> {
-    ghost use Rattle.wdf_model.specs.rules.Steps.{view_of};
-
-    ghost seen = { λ v. view_of v.plan.now v.parts.now v.cpu.0 v.number.0 };
+impl View for TopFrame<'_> {
+    ghost seen = { λ v. seen_by v.plan.now v.tree.now v.requests.now v.targets.now v.power.now v.cpus.now v.locks.now v.cpu.0 v.number.0 };
 
     fn frame(&self) -> &Frame {
-        self.parts.cpus().frame(self.number)
+        self.cpus.frame(self.number)
     }
 
     fn number(&self) -> FrameId {
@@ -30,19 +38,19 @@ impl<A: Agent> View for TopFrame<'_, A> {
     }
 
     fn irql(&self) -> Irql {
-        self.parts.cpus().irql(self.cpu)
+        self.cpus.irql(self.cpu)
     }
 
     fn life(&self, o: ObjectId) -> Life {
-        self.parts.tree().life(o)
+        self.tree.life(o)
     }
 
     fn kind(&self, o: ObjectId) -> Kind {
-        self.parts.tree().kind(o)
+        self.tree.kind(o)
     }
 
     fn references(&self, o: ObjectId) -> u32 {
-        self.parts.tree().references(o)
+        self.tree.references(o)
     }
 
     fn level_of(&self, i: ObjectId) -> Irql {
@@ -50,44 +58,47 @@ impl<A: Agent> View for TopFrame<'_, A> {
     }
 
     fn scope(&self, o: ObjectId) -> Option<LockRef> {
-        scope_of_object(self.plan.plan(), o, self.parts.declared_in(self.plan, o))
+        scope_of_object(self.plan.plan(), o, self.tree.declared(self.plan.plan(), o))
     }
 
     fn place(&self, r: ObjectId) -> Place {
-        self.parts.requests().place(r)
+        self.requests.place(r)
     }
 
     fn origin(&self, r: ObjectId) -> Option<ObjectId> {
-        self.parts.requests().info(r).origin
+        self.requests.info(r).origin
     }
 
     fn mark(&self, r: ObjectId) -> Mark {
-        self.parts.requests().info(r).mark
+        self.requests.info(r).mark
     }
 
     fn held(&self, r: ObjectId) -> bool {
-        self.parts.is_with_driver(r)
+        match self.requests.place(r) {
+            Place::Owned => true,
+            Place::Sent(_) => !self.targets.is_forgotten(r),
+            _ => false,
+        }
     }
 
     fn acknowledged(&self, r: ObjectId) -> bool {
-        self.parts.power().acknowledged(r)
+        self.power.acknowledged(r)
     }
 
     fn holder(&self, lock: LockRef) -> Option<FrameId> {
-        self.parts.locks().holder(lock)
+        self.locks.holder(lock)
     }
 
     fn by_call(&self, lock: LockRef) -> bool {
-        self.parts.locks().holds_by_call(self.number, lock)
+        self.locks.holds_by_call(self.number, lock)
     }
 
     fn held_by_call(&self) -> u32 {
-        self.parts.locks().held_by_call(self.number)
+        self.locks.held_by_call(self.number)
     }
 
     fn hardware(&self, register: u32) -> bool {
-        self.parts
-            .power()
+        self.power
             .has_hardware(self.plan.device_of_register(register))
     }
 }

@@ -1,4 +1,4 @@
-ghost use Rattle.std.specs.Prelude.{◌≡◌, ◌+◌, ◌<◌, ◌^◌, ◌++◌, ◌∷◌, [], List, OnOk, position, length};
+ghost use Rattle.std.specs.Prelude.{◌≡◌, ◌+◌, ◌<◌, ◌^◌, ◌++◌, ◌∷◌, [], List, OnOk, position};
 ghost use Rattle.wdf_table.specs.declared.row.Row.{Row};
 ghost use Rattle.wdf_table.specs.Rows.{is_of};
 ghost use Rattle.wdf_table.specs.Tables.{IsTallyOf, IsTableOf, all_seeds};

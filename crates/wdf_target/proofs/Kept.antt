@@ -163,7 +163,7 @@ nothing_opened : (info : Option TargetInfo) → (opening_target info).sent ≡ [
 nothing_opened None = refl
 nothing_opened (Some i) = refl
 
-nothing_sent : (plan : Plan) (ids : List ℕ) (t : ℕ) → (entry no_target (map (λ id. opening_target (target_of plan id)) ids) t).sent ≡ []
+pub nothing_sent : (plan : Plan) (ids : List ℕ) (t : ℕ) → (entry no_target (map (λ id. opening_target (target_of plan id)) ids) t).sent ≡ []
 nothing_sent plan [] t = refl
 nothing_sent plan (id ∷ ids) zero = nothing_opened (target_of plan id)
 nothing_sent plan (id ∷ ids) (suc t) = nothing_sent plan ids t

@@ -2,3 +2,4 @@ pub mod Sendings
 pub mod Kept
 pub mod Acts
 pub mod Openings
+pub mod Noting

@@ -1,3 +1,4 @@
+pub mod Laden
 pub mod Opened
 pub mod Target
 pub mod Targets

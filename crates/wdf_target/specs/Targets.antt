@@ -6,6 +6,7 @@ use Rattle.wdf_model.specs.Tables.{entry}
 use Rattle.wdf_model.specs.parts.Targets.{Target, Targets, no_target}
 use Rattle.wdf_maps.specs.Places.{entry_of}
 use Rattle.wdf_target.specs.declared.targets.Targets.TheInside.{Inside}
+use Rattle.wdf_target.specs.Laden.{AreNoted}
 use Rattle.wdf_target.specs.Target.{request_id}
 
 -- whether what is kept of a request says that this target has it
@@ -23,3 +24,4 @@ targets_in t = record { targets = t.targets.items }
 pub record IsSound (t : Inside) : Type 0 where
   pub kept : IsKept t.targets.items t.holders.items
   pub room : OBJECTS ≤ vec_capacity t.holders
+  pub noted : AreNoted t.targets.items t.laden

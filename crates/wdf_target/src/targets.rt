@@ -1,6 +1,9 @@
-ghost use Rattle.std.specs.Prelude.{◌≡◌, ℕ, ◌+◌, ◌<◌, ◌≤◌, IfOk, None, Some, false, if◌then◌else◌, is_some, length, slice_get};
+ghost use Rattle.std.specs.Prelude.{◌≡◌, ℕ, ◌+◌, ◌*◌, ◌<◌, IfOk, MatchOption, None, Some, false, if◌then◌else◌, is_some, length, replicate, slice_get, slice_set};
+ghost use Rattle.std.specs.Int.{div_ceil};
 ghost use Rattle.wdf_model.specs.Tables.{entry};
 ghost use Rattle.wdf_model.specs.parts.Targets as targets;
+ghost use Rattle.wdf_sets.specs.Nexts.{IsNext, NoneFrom};
+ghost use Rattle.wdf_target.specs.Laden.{has_any, is_laden, none_laden};
 
 use crate::target::Target;
 use std::alloc::Global;
@@ -9,15 +12,22 @@ use wdf_base::{Memory, ObjectId, Plan, Status};
 use wdf_declared::target_of;
 use wdf_maps::{entry_at, put_at};
 use wdf_model::{OBJECTS, Sending};
+use wdf_sets::IdSet;
+
+/// For so many ids there is no set.
+const TOO_MANY: usize = 0x8000_0000;
 
 /// The I/O targets: which are stopped, and what is sent to each. The target that has a request is kept
-/// too, so that no call but [`Targets::make`] looks at more than one target, or takes memory.
+/// too, and which targets have one, so that no call but [`Targets::make`] and [`Targets::begin_again`] looks at more than
+/// one target, and none but the first takes memory.
 #[derive(Drop)]
 pub struct Targets {
     /// By id, for the driver object and the declared objects.
     targets: Vec<Target>,
     /// By request, the target that has it.
     holders: Vec<Option<ObjectId>>,
+    /// The targets that have a request.
+    laden: IdSet,
 }
 
 impl Model for Targets {
@@ -60,14 +70,37 @@ fn begin_all(all: &mut Vec<Target>, plan: &Plan)
     }
 }
 
+/// The empty set, with room for as many ids. No set has room for [`TOO_MANY`]: where a table has as many, which no scenario's
+/// plan comes near, it is refused as [`Memory`].
+fn empty_set(alloc: Global, ids: usize) -> Result<IdSet, Memory>
+    ensures { IfOk result (λ set. set ≡ replicate (4096 * div_ceil ids 4096) false) }
+{
+    if ids >= TOO_MANY {
+        return Err(Memory);
+    }
+    IdSet::make(alloc, ids as u32)
+}
+
+/// Notes whether a target has a request.
+fn note(laden: &mut IdSet, t: ObjectId, target: &Target)
+    requires { t.0 < length laden.old }
+    ensures { laden.new ≡ slice_set laden.old t.0 (has_any target.now) }
+{
+    laden.put(t.0, target.len() > 0);
+}
+
 impl Targets {
     /// The declared targets, which are started and have nothing. On [`Memory`] nothing is made.
     pub fn make(alloc: Global, plan: &Plan) -> Result<Targets, Memory>
         ensures { IfOk result (λ made. made ≡ targets.opening_targets plan.now) }
     {
+        let targets = open(alloc, plan)?;
+        let holders = Vec::with_capacity(alloc, OBJECTS as usize)?;
+        let laden = empty_set(alloc, targets.len())?;
         Ok(Targets {
-            targets: open(alloc, plan)?,
-            holders: Vec::with_capacity(alloc, OBJECTS as usize)?,
+            targets,
+            holders,
+            laden,
         })
     }
 
@@ -80,6 +113,7 @@ impl Targets {
     {
         begin_all(&mut self.targets, plan);
         self.holders.clear();
+        self.laden.clear();
     }
 
     /// How many requests a target holds.
@@ -107,6 +141,20 @@ impl Targets {
         ensures { slice_get (targets.the_target self.now t.0).sent k ≡ Some result }
     {
         self.targets[t.0 as usize].at(k)
+    }
+
+    /// The first target from an id on, below an end, that has a request. It doesn't look at the others.
+    pub fn next_laden(&self, from: u32, end: u32) -> Option<u32>
+        ensures { MatchOption result (NoneFrom (is_laden self.now) from end) (λ t. IsNext (is_laden self.now) from end t) }
+    {
+        self.laden.next(from, end)
+    }
+
+    /// Whether no target has a request. It looks at none.
+    pub fn none_laden(&self) -> bool
+        ensures { result ≡ none_laden self.now }
+    {
+        self.laden.len() == 0
     }
 
     /// What is kept of a request that a target holds.
@@ -168,6 +216,7 @@ impl Targets {
         }
         let target = &mut self.targets[t.0 as usize];
         target.add(r, forget);
+        note(&mut self.laden, t, target);
         put_at(&mut self.holders, None, r.0, Some(t));
         true
     }
@@ -182,6 +231,7 @@ impl Targets {
         };
         let target = &mut self.targets[t.0 as usize];
         let keeps = target.finish(r, status);
+        note(&mut self.laden, t, target);
         self.holders[r.0 as usize] = keeps.then_some(t);
     }
 
@@ -195,6 +245,7 @@ impl Targets {
         };
         let target = &mut self.targets[t.0 as usize];
         target.remove(r);
+        note(&mut self.laden, t, target);
         self.holders[r.0 as usize] = None;
     }
 

@@ -5,4 +5,4 @@ mod decimals;
 #[cfg(test)]
 mod tests;
 
-pub use decimals::small_number;
+pub use decimals::{is_number, small_number};

@@ -1,5 +1,5 @@
 //! The lines of a text, and the tokens of a line.
-ghost use Rattle.std.specs.Prelude.{◌≡◌, ◌+◌, ◌^◌, ◌<◌, ◌≤◌, ◌++◌, length, OnOk, IfErr, IfOk, slice_index, Err, Ok, Option};
+ghost use Rattle.std.specs.Prelude.{◌≡◌, ◌+◌, ◌^◌, ◌<◌, ◌≤◌, ◌++◌, length, OnOk, IfErr, Err, Ok, Option};
 ghost use Rattle.std.specs.Option.{option_to_list};
 ghost use Rattle.std.specs.Char.{is_ascii_digit};
 ghost use Rattle.std.specs.List.{list_all, take_while};
@@ -50,13 +50,15 @@ struct Piece {
     content: Content,
 }
 
-fn is_plain(byte: u8) -> bool
+/// Whether a byte may stand in a text: a printable one, or a tab, a line feed or a carriage return.
+pub fn is_plain(byte: u8) -> bool
     ensures { result ≡ is_plain byte }
 {
     matches!(byte, b' '..=b'~') || matches!(byte, b'\t' | b'\n' | b'\r')
 }
 
-fn is_blank(byte: u8) -> bool
+/// Whether a byte stands between words: a blank, a tab or a carriage return.
+pub fn is_blank(byte: u8) -> bool
     ensures { result ≡ is_blank byte }
 {
     matches!(byte, b' ' | b'\t' | b'\r')

@@ -26,7 +26,7 @@ mod word_tokens;
 
 pub use keyword::Keyword;
 pub use laws::spelled_tokens_are_read;
-pub use lexer::{LexError, TokenFault, line_len, read_tokens};
+pub use lexer::{LexError, TokenFault, is_blank, is_plain, line_len, read_tokens};
 pub use named::{
     access_named, ask_named, call_named, callback_named, context_named, deferred_kind_named,
     form_named, keyword_named, level_named, plain_kind_named, scope_named, status_named,

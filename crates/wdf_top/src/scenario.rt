@@ -1,5 +1,5 @@
 //! Reading a scenario: the input's scene and its plan.
-ghost use Rattle.std.specs.Prelude.{◌≡◌, ◌≤◌, ℕ, List, length, None, IfOk, IfErr, MatchResult};
+ghost use Rattle.std.specs.Prelude.{◌≡◌, ◌≤◌, ℕ, List, length, None, IfOk, IfErr};
 ghost use Rattle.wdf_scene.specs.declared.scene.Scene.{Scene};
 ghost use Rattle.wdf_parse.specs.Canonical.{canonical_text};
 ghost use Rattle.wdf_parse.specs.StandsFor.{StandsFor};

@@ -1,9 +1,7 @@
 ghost use Rattle.std.specs.Prelude.{◌≡◌, map, string_bytes};
-ghost use Rattle.std.specs.Char.{is_ascii_digit};
-ghost use Rattle.std.specs.List.{list_all};
 ghost use Rattle.wdf_top.specs.Words.{form_of_word, form_with_number, form_of_words, number_word};
 
-use wdf_text::small_number;
+use wdf_text::{is_number, small_number};
 
 /// What the program was asked to do. `run` is none of these forms: this call has no threads to run on.
 #[derive(Clone, Copy)]
@@ -71,12 +69,6 @@ fn form_with_number(word: &str, number: u64) -> Option<Form>
     } else {
         None
     }
-}
-
-pub(crate) fn is_number(word: &[u8]) -> bool
-    ensures { result ≡ list_all is_ascii_digit word.now }
-{
-    word.iter().all(|byte| byte.is_ascii_digit())
 }
 
 /// The number that one to twenty decimal digits write; `None` where the word is none, or the number isn't below 2^64.

@@ -1,6 +1,6 @@
-ghost use Rattle.std.specs.Prelude.{◌≡◌, ◌≤◌, length, Option};
+ghost use Rattle.std.specs.Prelude.{◌≡◌, length, Option};
 ghost use Rattle.wdf_trace.specs.Reading.{class_of};
-ghost use Rattle.wdf_trace.specs.Told.{status_or_number, value_of, class_or_value, argument_of, call_with, call_in, answer_in, optional_of, answer_of, posted_in, asked_in, start_with, start_in, end_in, kind_in, callback_named, callback_in, fault_in, stage_in, status_in, told, event_in};
+ghost use Rattle.wdf_trace.specs.Told.{value_of, class_or_value, argument_of, call_with, call_in, answer_in, optional_of, answer_of, posted_in, asked_in, start_in, end_in, kind_in, callback_named, callback_in, fault_in, stage_in, status_in, told, event_in};
 
 use crate::reading::{
     Words, agent_of, class_of, cpu_of, has_dot, number_of, object_of, register_of, short_of,

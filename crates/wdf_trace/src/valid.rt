@@ -1,4 +1,4 @@
-ghost use Rattle.std.specs.Prelude.{◌≡◌, ◌↔◌, ◌≤◌, IsTrue, length, Option, is_some};
+ghost use Rattle.std.specs.Prelude.{◌≡◌, ◌↔◌, IsTrue, Option, is_some};
 ghost use Rattle.wdf_base.specs.Callbacks.{row_of, carries_request};
 ghost use Rattle.wdf_trace.specs.Events.{IsHandleOf, IsOptionalOf, IsValueOf, IsArgumentOf, IsCallOf, IsActionOf, IsPostOf, IsEventOf};
 

@@ -3,7 +3,7 @@ ghost use Rattle.wdf_base.specs.declared.wait.WaitLine.{WaitLine};
 ghost use Rattle.wdf_base.specs.Resolved.{IsResolved};
 ghost use Rattle.wdf_lines.specs.Endings.{ending_text, wait_text};
 ghost use Rattle.wdf_trace.specs.Reading.{words};
-ghost use Rattle.wdf_trace.specs.Waits.{IsEndingText, ending_of, has_cause, IsThingOf, IsCauseOf, IsWaitOf, frame_of, cause_with, cause_in, step_with, step_of, queued_line, sequence_line, object_line, wait_in};
+ghost use Rattle.wdf_trace.specs.Waits.{IsEndingText, ending_of, has_cause, IsThingOf, IsCauseOf, IsWaitOf, frame_of, cause_in, step_of, queued_line, sequence_line, object_line, wait_in};
 
 use crate::cause_word::CauseWord;
 use crate::reading::{has_dot, number_of, object_of, short_of, word};

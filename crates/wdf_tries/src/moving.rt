@@ -1,9 +1,9 @@
 //! The scene that a seed runs.
-ghost use Rattle.std.specs.Prelude.{◌≡◌, ◌+◌, IfOk, drop, length};
+ghost use Rattle.std.specs.Prelude.{◌≡◌, ◌+◌, IfOk, length};
 ghost use Rattle.wdf_run.specs.Seeds.{seed_words};
 ghost use Rattle.wdf_scene.specs.Naming.{HasProperNames};
 ghost use Rattle.wdf_scene.specs.Written.{IsScene};
-ghost use Rattle.wdf_tries.specs.Tries.{moved_case, moving_words, scene_for};
+ghost use Rattle.wdf_tries.specs.Tries.{moved_case, scene_for};
 
 use crate::opening::limit_of;
 use crate::tried::Case;

@@ -3,11 +3,11 @@ ghost use Rattle.std.specs.Prelude.{◌≡◌, ◌≢◌, ◌+◌, ◌<◌, ◌�
 ghost use mathlib.Core.List.{IsPrefix};
 ghost use Rattle.wdf_turn.specs.declared.token.Hold.TheVariants.{Idle};
 ghost use Rattle.wdf_turn.specs.Notes.{IsAccountOf};
-ghost use Rattle.wdf_turn.specs.Tokens.{first_token, split_off, new_token, joined, looked, given, IsGrown};
-ghost use Rattle.wdf_turn.specs.Turns.{token, opening, IsSeatOf, IsHeldBy, Answers, value_of, taken_value};
+ghost use Rattle.wdf_turn.specs.Tokens.{first_token, split_off, new_token, joined, looked};
+ghost use Rattle.wdf_turn.specs.Turns.{token, opening, IsSeatOf};
 
 use crate::chronicle::Chronicle;
-use crate::held::{Attempt, Held, Refused};
+use crate::held::Refused;
 use crate::plays::{Cut, Glue, Look};
 use crate::seat::Seat;
 use crate::token::Terms;

@@ -1,8 +1,8 @@
 //! A trace is judged, and its run is drawn.
-ghost use Rattle.std.specs.Prelude.{◌≡◌, ◌≤◌, ◌^◌, ◌<◌, [], length, IfOk, IfErr};
+ghost use Rattle.std.specs.Prelude.{◌≡◌, ◌<◌, [], IfOk, IfErr};
 ghost use Rattle.wdf_base.specs.Resolved.{IsResolved};
 ghost use Rattle.wdf_view.specs.Formed.{IsFormed, drawn_bytes};
-ghost use Rattle.wdf_view.specs.Causes.{HasPlan, IsAcceptedBy, IsInputCause, IsShown, IsTraceCause};
+ghost use Rattle.wdf_view.specs.Causes.{IsAcceptedBy, IsInputCause, IsShown, IsTraceCause};
 
 use crate::bad::Bad;
 use crate::drawn::Drawn;

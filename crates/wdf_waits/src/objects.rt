@@ -1,7 +1,6 @@
 //! The lines of objects whose deletion hasn't come to its end.
 ghost use Rattle.std.specs.Prelude.{◌≡◌, ◌<◌, length, option_map};
 ghost use Rattle.wdf_base.specs.declared.wait.Cause.TheVariants as cause;
-ghost use Rattle.wdf_base.specs.Lives.{is_asked, is_cleaned};
 ghost use Rattle.wdf_model.specs.State.{handle_in};
 ghost use Rattle.wdf_model.specs.Tables.{least};
 ghost use Rattle.wdf_model.specs.rules.Ready as ready;

@@ -1,7 +1,6 @@
 //! The lines of requests: where each is, and why it stays there.
 ghost use Rattle.std.specs.Prelude.{◌≡◌, option_map};
 ghost use Rattle.wdf_base.specs.declared.wait.Cause.TheVariants as cause;
-ghost use Rattle.wdf_base.specs.Places.{is_sent};
 ghost use Rattle.wdf_model.specs.State.{handle_in};
 ghost use Rattle.wdf_model.specs.Tables.{least};
 ghost use Rattle.wdf_waits.specs.Lines as lines;

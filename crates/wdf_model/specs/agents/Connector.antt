@@ -27,7 +27,7 @@ use Rattle.wdf_model.specs.declared.stack.Forwarded.{Forwarded}
 use Rattle.wdf_model.specs.Tables.{first_of_list, in_order_by, tick_after}
 use Rattle.wdf_model.specs.Plans.{first_device_agent, target_of}
 use Rattle.wdf_model.specs.State.{object_in}
-use Rattle.wdf_model.specs.rules.Faults.{arg_is}
+use Rattle.wdf_base.specs.Values.{arg_is}
 use Rattle.wdf_model.specs.rules.Posts.{ARRIVALS}
 use Rattle.wdf_model.specs.agents.LowerTarget.{handle_in_arg}
 use Rattle.wdf_model.specs.agents.Chains.{device_handle}

@@ -25,10 +25,10 @@ use Rattle.wdf_base.specs.Callbacks.{is_query}
 use Rattle.wdf_model.specs.Tables.{tick_after, entry, put, lesser, same_id, first_of_list}
 use Rattle.wdf_model.specs.Plans.{device_of, devices_of, first_there}
 use Rattle.wdf_model.specs.State.{object_in}
-use Rattle.wdf_model.specs.parts.Pnp.{is_success}
 use Rattle.wdf_model.specs.rules.Posts.{ARRIVALS}
 use Rattle.wdf_model.specs.agents.App.{App, app_after, app_due, app_next, after_post}
 use Rattle.wdf_model.specs.agents.PnpManager.{manager_at}
+use Rattle.wdf_base.specs.Values.{is_success}
 
 -- own: what the policy knows of a device that takes part
 pub record IdleDevice : Type 0 where

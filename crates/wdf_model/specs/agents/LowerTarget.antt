@@ -20,7 +20,7 @@ use Rattle.wdf_model.specs.declared.entries.SentRequest.{SentRequest}
 use Rattle.wdf_model.specs.Tables.{tick_after, least}
 use Rattle.wdf_model.specs.Plans.{target_of}
 use Rattle.wdf_model.specs.State.{object_in}
-use Rattle.wdf_model.specs.rules.Faults.{arg_is}
+use Rattle.wdf_base.specs.Values.{arg_is}
 
 -- a simulated I/O target: what is declared of it, and the requests that it has, the earliest sent first
 pub record LowerTarget : Type 0 where

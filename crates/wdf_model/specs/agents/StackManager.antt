@@ -20,9 +20,10 @@ use Rattle.wdf_model.specs.declared.enums.Phase.TheVariants.{Off, Working, Sleep
 use Rattle.wdf_model.specs.declared.stack.AskPost.{AskPost}
 use Rattle.wdf_model.specs.declared.stack.StackDevice.{StackDevice}
 use Rattle.wdf_model.specs.Plans.{device_of, devices_of}
-use Rattle.wdf_model.specs.parts.Pnp.{is_success, opening_phase}
+use Rattle.wdf_model.specs.parts.Pnp.{opening_phase}
 use Rattle.wdf_model.specs.agents.App.{later_line}
 use Rattle.wdf_model.specs.agents.Chains.{above, below, device_handle}
+use Rattle.wdf_base.specs.Values.{is_success}
 
 -- the Plug and Play manager of stacks: each line is posted for the whole chain of its device, post after post (own)
 pub record StackManager : Type 0 where

@@ -5,7 +5,6 @@ use Rattle.std.specs.List.{list_any, flat_map}
 use Rattle.wdf_base.specs.declared.plan.Plan.{Plan}
 use Rattle.wdf_base.specs.declared.ids.Handle.{Handle}
 use Rattle.wdf_base.specs.declared.value.Value.{Value}
-use Rattle.wdf_base.specs.declared.value.Value.TheVariants.{Stat}
 use Rattle.wdf_base.specs.declared.value.Status.TheVariants as status
 use Rattle.wdf_base.specs.declared.call.Callback.{Callback}
 use Rattle.wdf_base.specs.declared.call.Callback.TheVariants as callback
@@ -17,11 +16,12 @@ use Rattle.wdf_base.specs.declared.event.Step.{Step}
 use Rattle.wdf_base.specs.declared.event.Step.TheVariants as step
 use Rattle.wdf_base.specs.declared.declared.DeviceInfo.{DeviceInfo}
 use Rattle.wdf_base.specs.declared.declared.InterruptInfo.{InterruptInfo}
-use Rattle.wdf_base.specs.Same.{same_callback, same_value}
+use Rattle.wdf_base.specs.Same.{same_callback}
 use Rattle.wdf_model.specs.declared.enums.Phase.{Phase}
 use Rattle.wdf_model.specs.declared.enums.Phase.TheVariants.{Off, Working, Sleeping, Removed}
 use Rattle.wdf_model.specs.Tables.{entry, change_at, first_of_list}
 use Rattle.wdf_model.specs.Plans.{device_of, interrupt_of, interrupts_of, declared_ids, declares}
+use Rattle.wdf_base.specs.Values.{is_success}
 
 -- an interrupt, and which of its two callbacks are declared
 pub record InterruptSteps : Type 0 where
@@ -230,10 +230,6 @@ taken_step sequence = with_step (first_of_list sequence.left) (record sequence {
 -- device d takes its next step
 abbrev pub taken : Pnp → ℕ → Pnp
 taken Q d = with_sequence Q d taken_step
-
--- whether a callback ended with the value SUCCESS
-abbrev pub is_success : Value → Bool
-is_success v = same_value v (Stat status.Success)
 
 -- the steps that are left after callback c of a device ended with a value other than SUCCESS. With the callbacks that
 -- aren't in the table nothing changes.

@@ -261,17 +261,17 @@ set T o k v = with_node T o (λ n. record n { cells = slice_set n.cells k v })
 
 -- the id of what a declared object has as parent: its device; for a device the driver object, id 1; for the driver
 -- object 0, which is none
-abbrev pub device_of_declared : Declared → ℕ
-device_of_declared declared.Driver = 0
-device_of_declared (declared.Device d) = 1
-device_of_declared (declared.Queue q) = q.device.0
-device_of_declared (declared.Interrupt i) = i.device.0
-device_of_declared (declared.Target t) = t.device.0
-device_of_declared (declared.OfClass c) = 0
+abbrev pub declared_parent : Declared → ℕ
+declared_parent declared.Driver = 0
+declared_parent (declared.Device d) = 1
+declared_parent (declared.Queue q) = q.device.0
+declared_parent (declared.Interrupt i) = i.device.0
+declared_parent (declared.Target t) = t.device.0
+declared_parent (declared.OfClass c) = 0
 
 -- a declared object exists, live, from the opening
 abbrev pub declared_node : Declared → Node
-declared_node d = new_node (unwrap_or (declared_kind d) kind.General) 0 (device_of_declared d)
+declared_node d = new_node (unwrap_or (declared_kind d) kind.General) 0 (declared_parent d)
 
 -- own: the objects at the opening: the id 0 that none has, the driver object, then what is declared, in the order of
 -- the text

@@ -36,7 +36,7 @@ use Rattle.wdf_model.specs.State.{State, object_in, queue_delivers, nothing_at, 
 use Rattle.wdf_model.specs.Ids.{cpu_of, frame_id, irql_of, object_id}
 use Rattle.wdf_model.specs.declared.deed.Deed.{Deed}
 use Rattle.wdf_model.specs.declared.deed.Deed.TheVariants.{Create, MakeRequest, AskDeletion, Refer, Unrefer, WriteCell, Raise, Lower, TakeLock, ReleaseLock, Present, Requeue, Forward, GiveBack, MarkRequest, UnmarkRequest, SendRequest, CompleteRequest, SetMode, PurgeQueue, RegisterQueue, Acknowledge, EnqueueDpc, CancelDpc, EnqueueWork, StartTimer, StopTimer, StopTarget, StartTarget}
-use Rattle.wdf_model.specs.rules.Faults.{arg_is}
+use Rattle.wdf_base.specs.Values.{arg_is}
 
 -- what a call answers, and what it does. Of a call that waits it is the answer that comes when the wait is over,
 -- and what is done before.

@@ -2,7 +2,6 @@
 -- names are own; the rules are KMDF's, but for the script errors.
 use Rattle.std.specs.Prelude.{if◌then◌else◌, ℕ, Bool, true, false, ◌==◌, nat_lt, not, ◌&&◌, ◌||◌, find, Option, Some, None}
 use Rattle.wdf_base.specs.declared.ids.Handle.{Handle}
-use Rattle.wdf_base.specs.declared.value.Value.{Value}
 use Rattle.wdf_base.specs.declared.value.Value.TheVariants.{Num, Obj, Stat}
 use Rattle.wdf_base.specs.declared.object.Kind.{Kind}
 use Rattle.wdf_base.specs.declared.object.Kind.TheVariants as kind
@@ -11,7 +10,7 @@ use Rattle.wdf_base.specs.declared.object.Place.{Place}
 use Rattle.wdf_base.specs.declared.object.Mark.{Mark}
 use Rattle.wdf_base.specs.declared.object.LockRef.{LockRef}
 use Rattle.wdf_base.specs.declared.call.Arg.{Arg}
-use Rattle.wdf_base.specs.declared.call.Arg.TheVariants.{Val, Class}
+use Rattle.wdf_base.specs.declared.call.Arg.TheVariants.{Val}
 use Rattle.wdf_base.specs.declared.call.Call.{Call}
 use Rattle.wdf_base.specs.declared.call.CallKind.{CallKind}
 use Rattle.wdf_base.specs.declared.call.CallKind.TheVariants as call
@@ -27,9 +26,10 @@ use Rattle.wdf_base.specs.declared.frame.Intent.{Intent}
 use Rattle.wdf_base.specs.declared.frame.Intent.TheVariants as intent
 use Rattle.wdf_base.specs.declared.words.TheConstants.{FAULTS}
 use Rattle.wdf_base.specs.Calls.{is_acquire, is_release, signature_of}
-use Rattle.wdf_base.specs.Same.{same_kind, same_callback, same_call_kind, same_value}
+use Rattle.wdf_base.specs.Same.{same_kind, same_callback, same_call_kind}
 use Rattle.wdf_base.specs.Lives.{is_cleaned, is_gone}
 use Rattle.wdf_base.specs.Places.{is_due, is_marked, is_owned}
+use Rattle.wdf_base.specs.Values.{arg_is}
 use Rattle.wdf_model.specs.Tables.{same_id}
 use Rattle.wdf_model.specs.parts.Locks.{object_lock}
 use Rattle.wdf_model.specs.State.{object_in}
@@ -72,15 +72,6 @@ pub record View : Type 0 where
   pub hardware : ℕ → Bool
 
 -- ---- arguments
-
--- a value is the number n
-abbrev pub is_number : Value → ℕ → Bool
-is_number v n = same_value v (Num n)
-
--- an argument is the number n; never a class
-abbrev pub arg_is : Arg → ℕ → Bool
-arg_is (Val v) n = is_number v n
-arg_is (Class c) n = false
 
 -- a call's row asks for an object where an argument has this sort
 abbrev pub is_object_sort : Sort → Bool

@@ -1,7 +1,6 @@
 //! The requests of a queue are closed: the framework will complete them.
 
 ghost use Rattle.std.specs.Prelude.{◌≡◌, ◌<◌, length, map};
-ghost use Rattle.wdf_base.specs.Places.{is_returning_to};
 ghost use Rattle.wdf_model.specs.parts.Requests as requests;
 ghost use Rattle.wdf_request.specs.Closed.{is_part};
 

@@ -1,7 +1,7 @@
 //! Deletions: a deletion is asked, the cleanup is done, and the object is destroyed.
 
-ghost use Rattle.std.specs.Prelude.{◌≡◌, ◌+◌, ◌-◌, ◌<◌, ◌≤◌, ◌==◌, ◌||◌, ℕ, IfSome, IsTrue, drop, false, find, length, nat_lt, option_map};
-ghost use Rattle.std.specs.List.{list_all, range_with_len};
+ghost use Rattle.std.specs.Prelude.{◌≡◌, ◌-◌, ◌<◌, ◌==◌, ◌||◌, IsTrue, false, length};
+ghost use Rattle.std.specs.List.{list_all};
 ghost use Rattle.wdf_base.specs.Lives.{is_asked, is_past_cleanup};
 ghost use Rattle.wdf_model.specs.Tables.{same_id};
 ghost use Rattle.wdf_model.specs.parts.Tree as tree;

@@ -1,7 +1,6 @@
 //! The objects of a subtree, gathered along the lists of children.
 
-ghost use Rattle.std.specs.Prelude.{◌≡◌, ◌+◌, ◌<◌, ◌≤◌, ◌^◌, ◌==◌, ◌∷◌, ◌++◌, ◌&&◌, ◌||◌, [], ℕ, IfOk, IfSome, false, filter, if◌then◌else◌, length, nat_le, not, slice_index, vec_capacity};
-ghost use Rattle.std.specs.List.{list_all};
+ghost use Rattle.std.specs.Prelude.{◌≡◌, ◌+◌, ◌<◌, ◌≤◌, ◌^◌, ◌==◌, ◌∷◌, ◌++◌, ◌&&◌, ◌||◌, [], ℕ, IfOk, IfSome, false, if◌then◌else◌, length, nat_le, not, slice_index, vec_capacity};
 ghost use Rattle.wdf_ilist.specs.Family.{is_on, list_at};
 ghost use Rattle.wdf_model.specs.Tables.{same_id};
 ghost use Rattle.wdf_model.specs.parts.Tree as tree;

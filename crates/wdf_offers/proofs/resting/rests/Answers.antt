@@ -1,6 +1,6 @@
 -- Of what rests nothing may come.
 use Rattle.std.proofs.Common.{not, ap, sym, ◌∙◌}
-use Rattle.wdf_offers.proofs.AtRest.{counted_off, high_off}
+use Rattle.wdf_offers.proofs.AtRest.{high_off, undue_off}
 use Rattle.wdf_offers.proofs.resting.rests.Goals as goal
 
 pub returns-then-not-level_fits-clause-none : goal.returns-then-not-level_fits-clause-none
@@ -9,4 +9,4 @@ returns-then-not-level_fits-clause-none g c = λ high o.
 
 pub returns-else-not-level_fits-clause-none : goal.returns-else-not-level_fits-clause-none
 returns-else-not-level_fits-clause-none g c = λ on o.
-    counted_off c.args.plan.now g.A.Agent.meaning c.args.parts.now c.requires.settled c.args.cpu.0 c.args.rank (sym (rw c.herd_of.ensures at c.none_counted.ensures) ∙ on) o
+    undue_off c.args.plan.now g.A.Agent.meaning c.args.parts.now c.requires.settled c.args.cpu.0 c.args.rank (sym c.none_due.ensures ∙ on) o

@@ -1,13 +1,12 @@
--- One sequence more, and all.
-use Rattle.std.proofs.Common.{ap, arith}
-use Rattle.wdf_declared.proofs.Ids.{ids_all, ids_more}
-use Rattle.wdf_pnp.specs.Opening.{sequence_at}
+-- All devices are at the opening, and no step is left.
+use Rattle.std.proofs.Common.{length, ap, arith}
+use Rattle.wdf_pnp.proofs.Stepping.{none_stepping}
 use Rattle.wdf_pnp.proofs.pnp.Pnp.make.Goals as goal
 
-pub loop-id-preserved : goal.loop-id-preserved
-loop-id-preserved c =
-    ids_more (sequence_at c.args.plan.now) _ _ c.in_ok-make.field-0 c.loop-id.id c.loop-id.invariant c.in_ok-make.ensures c.in_ok-push.ensures.items
+pub invariant_of-result : goal.invariant_of-result
+invariant_of-result c =
+    let all = ap length c.in_ok-devices.ensures in
+    none_stepping c.args.plan.now _ _ _ c.in_ok-devices.ensures c.in_ok-stepping.ensures.members (omega (arith, c.in_ok-stepping.ensures.room, c.len.ensures, all))
 
 pub returns : goal.returns
-returns c =
-    ap (λ ds. record { devices = ds }) (ids_all (sequence_at c.args.plan.now) _ c.loop-id.id _ c.loop-id.invariant (omega arith))
+returns c = ap (λ ds. record { devices = ds }) c.in_ok-devices.ensures

@@ -4,6 +4,7 @@ use Rattle.std.proofs.lemmas.List.{length-replicate}
 use Rattle.wdf_ilist.specs.Family.{Family}
 use Rattle.wdf_model.specs.parts.Queues.{Queues}
 use Rattle.wdf_queue.proofs.Openings.{length-dispatch, opened}
+use Rattle.wdf_queue.proofs.Presenting.{none_present}
 use Rattle.wdf_queue.proofs.Rising.{marked_empty}
 use Rattle.wdf_queue.proofs.queues.Queues.begin_again.Goals as goal
 
@@ -22,6 +23,7 @@ invariant_of-self c =
       room = rw c.clear.ensures c.self.invariant.room;
       marks = rw (c.write_dispatches.ensures, long) (c.self.invariant.marks ∙ many);
       rising = rw c.clear.ensures (marked_empty c.self.inside.rising.items (length c.self.inside.waiting.lists));
+      presentable = none_present _ (length c.self.inside.waiting.lists) (length c.self.inside.presentable) _ (ap (λ (f : Family). f.lists) c.clear.ensures) c.clear-2.ensures (rw (c.write_dispatches.ensures, long) (rw many at c.self.invariant.presentable.room));
     }
 
 pub returns : goal.returns

@@ -1,6 +1,7 @@
-use Rattle.std.proofs.Common.{None, rules}
+use Rattle.std.proofs.Common.{None, rules, arith}
 use Rattle.wdf_model.specs.parts.Targets.{without_sending}
 use Rattle.wdf_target.proofs.Kept.{target_within, kept_moved}
+use Rattle.wdf_target.proofs.Noting.{noted_moved}
 use Rattle.wdf_target.proofs.Acts.{changed_as_read, holder_read, back_none, back_moves, back_done}
 use Rattle.wdf_target.proofs.targets.Targets.back.Goals as goal
 
@@ -23,6 +24,7 @@ invariant_of-self c =
     record {
       kept = kept_moved c.self.inside.targets.items c.self.inside.holders.items _ c.in-Some.t.0 c.args.r.0 c.remove.new.self None c.self.invariant.kept moves;
       room = c.self.invariant.room;
+      noted = rw c.note.ensures (noted_moved c.self.inside.targets.items c.self.inside.laden c.in-Some.t.0 c.remove.new.self c.self.invariant.noted (target_within c.self.inside.targets.items c.self.inside.holders.items c.args.r.0 c.in-Some.t c.self.invariant.kept there));
     }
 
 pub returns-clause-done : goal.returns-clause-done
@@ -30,3 +32,10 @@ returns-clause-done c =
     let there = holder_read c.self.inside.holders.items _ c.args.r.0 c.entry_at.result _ c.entry_at.ensures c.as_slice.ensures.value c.in-Some.is in
     let is = changed_as_read c.self.inside.targets.items c.self.inside.holders.items c.args.r.0 c.in-Some.t (without_sending c.args.r.0) c.index_mut-target.result.now c.remove.new.self c.self.invariant.kept there c.index_mut-target.ensures.value c.remove.ensures in
     back_done c.args.self.now c.self.inside.targets.items c.self.inside.holders.items c.args.r.0 c.in-Some.t c.remove.new.self c.self.view_is c.self.invariant.kept there is
+
+pub note-requires : goal.note-requires
+note-requires c =
+    let there = holder_read c.self.inside.holders.items _ c.args.r.0 c.entry_at.result _ c.entry_at.ensures c.as_slice.ensures.value c.in-Some.is in
+    let within = target_within c.self.inside.targets.items c.self.inside.holders.items c.args.r.0 c.in-Some.t c.self.invariant.kept there in
+    let room = c.self.invariant.noted.room in
+    omega arith

@@ -3,6 +3,7 @@ use Rattle.wdf_model.specs.parts.Targets.{Target, new_sending, sending_in_order}
 use Rattle.wdf_maps.specs.Places.{entry_of}
 use Rattle.wdf_target.specs.Target.{request_id}
 use Rattle.wdf_target.proofs.Kept.{kept_moved, no_target_has}
+use Rattle.wdf_target.proofs.Noting.{noted_moved}
 use Rattle.wdf_target.proofs.Acts.{read_as, nothing_kept, send_moves, taker_within, target_written}
 use Rattle.wdf_target.proofs.targets.Targets.send.Goals as goal
 
@@ -25,6 +26,7 @@ invariant_of-self c =
     record {
       kept = rw c.put_at.ensures.entries (kept_moved c.self.inside.targets.items c.self.inside.holders.items _ c.args.t.0 c.args.r.0 c.add.new.self _ c.self.invariant.kept moves);
       room = omega (arith, c.put_at.ensures.room, c.self.invariant.room);
+      noted = rw c.note.ensures (noted_moved c.self.inside.targets.items c.self.inside.laden c.args.t.0 c.add.new.self c.self.invariant.noted within);
     }
 
 pub returns-clause-done : goal.returns-clause-done
