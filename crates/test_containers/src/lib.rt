@@ -1,4 +1,4 @@
-//! Tests of the lists and the sets of ids, and of entries by rising id.
+//! Tests of the lists and the sets of ids, of entries by rising id, and of entries by id in slots.
 #![tactic(auto)]
 
 #[cfg(test)]
@@ -7,3 +7,5 @@ mod lists;
 mod rising;
 #[cfg(test)]
 mod sets;
+#[cfg(test)]
+mod slots;

@@ -8,6 +8,7 @@
 #![tactic(auto)]
 
 mod agent;
+mod bytes;
 mod call;
 mod declared;
 mod event;
@@ -28,30 +29,103 @@ mod wait;
 mod words;
 
 pub use agent::Agent;
-pub use call::{Arg, Call, CallKind, Callback};
-pub use declared::{
-    ClassInfo, Declared, DeferredKind, DeviceInfo, DispatchKind, ExecutionLevel, InterruptInfo,
-    PlainKind, PostLine, QueueInfo, RegisterInfo, Scope, Serves, TargetInfo, WhenLine,
-};
-pub use event::{Access, Action, Actor, Ask, Ending, Event, Fault, Post, Stage, Step};
-pub use frame::{Change, Frame, Intent, Pending, VARIABLES};
-pub use ids::{Cpu, FrameId, Handle, Irql, ObjectId};
-pub use items::{FEW, Items, MANY};
+pub use bytes::push_text;
+pub use call::Arg;
+pub use call::Call;
+pub use call::CallKind;
+pub use call::Callback;
+pub use declared::ClassInfo;
+pub use declared::Declared;
+pub use declared::DeferredKind;
+pub use declared::DeviceInfo;
+pub use declared::DispatchKind;
+pub use declared::ExecutionLevel;
+pub use declared::InterruptInfo;
+pub use declared::PlainKind;
+pub use declared::PostLine;
+pub use declared::QueueInfo;
+pub use declared::RegisterInfo;
+pub use declared::Scope;
+pub use declared::Serves;
+pub use declared::TargetInfo;
+pub use declared::WhenLine;
+pub use event::Access;
+pub use event::Action;
+pub use event::Actor;
+pub use event::Ask;
+pub use event::Ending;
+pub use event::Event;
+pub use event::Fault;
+pub use event::Post;
+pub use event::Stage;
+pub use event::Step;
+pub use frame::Change;
+pub use frame::Frame;
+pub use frame::Intent;
+pub use frame::Pending;
+pub use frame::VARIABLES;
+pub use ids::Cpu;
+pub use ids::FrameId;
+pub use ids::Handle;
+pub use ids::Irql;
+pub use ids::ObjectId;
+pub use items::FEW;
+pub use items::Items;
+pub use items::MANY;
 pub use memory::Memory;
-pub use name::{NAME_LIMIT, Name};
-pub use object::{Kind, Life, LockRef, Mark, Place, RequestForm, RequestInfo};
+pub use name::NAME_LIMIT;
+pub use name::Name;
+pub use object::Kind;
+pub use object::Life;
+pub use object::LockRef;
+pub use object::Mark;
+pub use object::Place;
+pub use object::RequestForm;
+pub use object::RequestInfo;
 pub use plan::Plan;
-pub use rank::{CallbackLevel, CallbackLock, CallbackRow, Owner, Rank};
-pub use same::{same_callback, same_irql, same_object_id, same_status};
-pub use same_plan::{
-    same_declared, same_device, same_dispatch, same_execution_level, same_interrupt, same_queue,
-    same_scope, same_serves, same_target,
-};
-pub use script::{Act, AgentInfo, ArgNode, ContextWord, ExprNode, Operator, Script, Statement};
-pub use signature::{CallLevel, Signature, Sort};
-pub use value::{Status, Value};
-pub use wait::{Cause, OpenThing, WaitLine};
-pub use words::{
-    ASKS, CALL_KINDS, CALLBACKS, FAULTS, STAGES, STATUSES, ask_words, call_words, callback_words,
-    fault_words, stage_words, status_words,
-};
+pub use rank::CallbackLevel;
+pub use rank::CallbackLock;
+pub use rank::CallbackRow;
+pub use rank::Owner;
+pub use rank::Rank;
+pub use same::same_callback;
+pub use same::same_irql;
+pub use same::same_object_id;
+pub use same::same_status;
+pub use same_plan::same_declared;
+pub use same_plan::same_device;
+pub use same_plan::same_dispatch;
+pub use same_plan::same_execution_level;
+pub use same_plan::same_interrupt;
+pub use same_plan::same_queue;
+pub use same_plan::same_scope;
+pub use same_plan::same_serves;
+pub use same_plan::same_target;
+pub use script::Act;
+pub use script::AgentInfo;
+pub use script::ArgNode;
+pub use script::ContextWord;
+pub use script::ExprNode;
+pub use script::Operator;
+pub use script::Script;
+pub use script::Statement;
+pub use signature::CallLevel;
+pub use signature::Signature;
+pub use signature::Sort;
+pub use value::Status;
+pub use value::Value;
+pub use wait::Cause;
+pub use wait::OpenThing;
+pub use wait::WaitLine;
+pub use words::ASKS;
+pub use words::CALL_KINDS;
+pub use words::CALLBACKS;
+pub use words::FAULTS;
+pub use words::STAGES;
+pub use words::STATUSES;
+pub use words::ask_words;
+pub use words::call_words;
+pub use words::callback_words;
+pub use words::fault_words;
+pub use words::stage_words;
+pub use words::status_words;

@@ -10,5 +10,5 @@ pub mod Counting
 pub mod Ticks
 pub mod Leasts
 mod Nexts
-mod Apart
+mod Writes
 mod Parking

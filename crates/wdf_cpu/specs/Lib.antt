@@ -5,7 +5,6 @@ pub mod FrameTests
 pub mod Spending
 pub mod InUntils
 pub mod FrameUpdate
-pub mod InSlots
 pub mod Fresh
 pub mod Kept
 pub mod Occupied

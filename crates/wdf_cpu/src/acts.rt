@@ -7,6 +7,7 @@ ghost use Rattle.wdf_cpu.specs.FrameUpdate.{gone};
 
 use crate::cpus::{Cpus, lock_in, lock_key, object_key, wait_key};
 use crate::frame_update::{FrameUpdate, awaits};
+use crate::slots::{change, go_on};
 use crate::stack::{pop_from, push_on};
 use crate::untils::move_until_if;
 use wdf_base::{Cpu, Frame, FrameId, Irql, ObjectId};
@@ -39,7 +40,7 @@ impl Cpus {
         ensures frames { length self.new.frames ≡ length self.old.frames }
     {
         let live = entry_at(&self.live, false, f.0);
-        let now = &self.frames.running(f.0).frame;
+        let now = &self.frames.get(f.0).frame;
         let object = object_key(now);
         let awaited = wait_key(now);
         let lock = lock_key(now);
@@ -54,7 +55,7 @@ impl Cpus {
             Some(lock_key(&frame)),
         );
         move_until_if(&mut self.untils, live, until, frame.until);
-        self.frames.change(f.0, frame);
+        change(&mut self.frames, f.0, frame);
     }
 
     /// A frame goes on in its place.
@@ -64,7 +65,7 @@ impl Cpus {
         ensures frames { length self.new.frames ≡ length self.old.frames }
     {
         let live = entry_at(&self.live, false, f.0);
-        let now = &self.frames.running(f.0).frame;
+        let now = &self.frames.get(f.0).frame;
         let awaited = wait_key(now);
         let lock = lock_key(now);
         let until = now.until;
@@ -77,7 +78,7 @@ impl Cpus {
             Some(lock_in(&update.pending)),
         );
         move_until_if(&mut self.untils, live, until, update.until);
-        self.frames.go_on(f.0, update);
+        go_on(&mut self.frames, f.0, update);
     }
 
     /// A frame holds a level more.
@@ -97,7 +98,7 @@ impl Cpus {
         ensures { self.new ≡ cpus.lower self.old f.0 level.0 }
     {
         self.levels.lower(f, level);
-        let own = self.frames.running(f.0).level;
+        let own = self.frames.get(f.0).level;
         put_at(&mut self.peaks, 0, f.0, self.levels.peak(f, own).0);
     }
 
@@ -109,7 +110,7 @@ impl Cpus {
         ensures size { length self.new.stacks ≡ length self.old.stacks }
     {
         let f = FrameId(pop_from(&mut self.stacks, cpu).unwrap());
-        let frame = &self.frames.running(f.0).frame;
+        let frame = &self.frames.get(f.0).frame;
         let object = object_key(frame);
         let awaited = wait_key(frame);
         let until = frame.until;
@@ -129,7 +130,7 @@ impl Cpus {
         ensures size { length self.new.stacks ≡ length self.old.stacks }
     {
         if let Some(f) = pop_from(&mut self.stacks, cpu) {
-            let lock = lock_key(&self.frames.running(f).frame);
+            let lock = lock_key(&self.frames.get(f).frame);
             self.parked_for.moves(None, Some(lock));
             self.parked.put(f);
         }
@@ -142,7 +143,7 @@ impl Cpus {
         ensures done { self.new ≡ cpus.unpark self.old cpu.0 f.0 }
         ensures size { length self.new.stacks ≡ length self.old.stacks }
     {
-        let lock = lock_key(&self.frames.running(f.0).frame);
+        let lock = lock_key(&self.frames.get(f.0).frame);
         self.parked_for.moves(Some(lock), None);
         self.parked.remove_number(f.0);
         push_on(&mut self.stacks, cpu, f.0);

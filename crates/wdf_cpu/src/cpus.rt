@@ -7,50 +7,21 @@ ghost use Rattle.wdf_cpu.specs.ParkedFor.{lock_in, lock_key, lock_of_call, takes
 
 use crate::fresh::{FreshLists, FreshTallies};
 use crate::levels::Levels;
-use crate::slots::FrameSlots;
 use crate::stack::Stack;
 use crate::untils::Untils;
 use std::alloc::Global;
 use std::marker::Model;
-use wdf_base::{
-    Call, CallKind, Callback, Frame, Handle, Irql, Memory, ObjectId, Pending, Plan, Status,
-    VARIABLES, Value,
-};
+use wdf_base::{Call, CallKind, Frame, Memory, ObjectId, Pending, Plan};
 use wdf_maps::Rising;
 use wdf_model::{OBJECTS, Running, object_in};
+use wdf_slots::Slots;
 use wdf_tally::Tally;
-
-/// The handle of no object.
-const NO_HANDLE: Handle = Handle {
-    id: ObjectId(0),
-    name: 0,
-};
-
-/// The entry of a number that no frame has.
-pub(crate) const NO_FRAME: Running = Running {
-    frame: Frame {
-        callback: Callback::EvtDestroyCallback,
-        object: NO_HANDLE,
-        device: NO_HANDLE,
-        request: None,
-        length: 0,
-        code: 0,
-        status: Status::Success,
-        script: 0,
-        at: 0,
-        variables: [Value::Num(0); VARIABLES],
-        counters: [0; VARIABLES],
-        until: 0,
-        pending: None,
-    },
-    level: Irql(0),
-};
 
 /// The processors, their frames and the frames that are parked.
 #[derive(Drop)]
 pub struct Cpus {
     /// The frames by number.
-    pub(crate) frames: FrameSlots,
+    pub(crate) frames: Slots<Running>,
     /// The frames of each processor.
     pub(crate) stacks: Vec<Stack>,
     /// The numbers of the frames that left their processor, rising.
@@ -90,13 +61,13 @@ impl Cpus {
         ensures { IfOk result (λ c. c ≡ opening_cpus plan.now) }
     {
         let lists = FreshLists::make(alloc, plan.cpus())?;
-        let frames = FrameSlots::make(alloc)?;
+        let frames = Slots::make(alloc)?;
         let tallies = FreshTallies::make(alloc)?;
         Ok(Cpus::begun(plan, frames, lists, tallies))
     }
 
     /// The processors at the opening, over this memory.
-    fn begun(plan: &Plan, frames: FrameSlots, lists: FreshLists, tallies: FreshTallies) -> Cpus
+    fn begun(plan: &Plan, frames: Slots<Running>, lists: FreshLists, tallies: FreshTallies) -> Cpus
         requires frames { frames ≡ [] }
         requires lists { AreFresh plan.now.cpus lists }
         requires tallies { CountNothing tallies }

@@ -2,10 +2,9 @@
 //!
 //! # Choices
 //!
-//! - **Where are the frames?** In the kit's `slab`, and beside it one more than the key of each number's slot. The number of a
-//!   frame is that of its event, and few frames are there at a time. A list of all numbers would have an entry of 504
-//!   bytes for each event. A slot names its number, so two numbers never share one. A frame that ends gives its slot
-//!   back. The room of all is taken before the run; memory that is not touched costs nothing.
+//! - **Where are the frames?** In the slots of `wdf_slots`, by number. The number of a frame is that of its event, and few
+//!   frames are there at a time. A list of all numbers would have an entry of 504 bytes for each event. A frame that ends
+//!   gives its slot back.
 //! - **How does a frame go on?** In its slot: a [`FrameUpdate`] says what changes, and the rest isn't copied.
 #![tactic(auto)]
 

@@ -15,7 +15,7 @@ impl Cpus {
     pub fn live_end(&self) -> u32
         ensures { filter (λ f. contains f (cpus.all_frames self.now)) (range_with_len 0 result) ≡ filter (λ f. contains f (cpus.all_frames self.now)) (ids_of self.now.frames) }
     {
-        self.frames.len().min(self.live.len()) as u32
+        (self.frames.len() as usize).min(self.live.len()) as u32
     }
 
     /// The least of the frames that are above one on its processor; None exactly where none is.

@@ -75,7 +75,7 @@ impl Cpus {
     pub fn frame_len(&self) -> usize
         ensures { result ≡ length self.now.frames }
     {
-        self.frames.len()
+        self.frames.len() as usize
     }
 
     /// How many levels are held.
@@ -89,7 +89,7 @@ impl Cpus {
     pub fn frame(&self, f: FrameId) -> &Frame
         ensures { result.now ≡ cpus.frame_of self.now f.0 }
     {
-        &self.frames.running(f.0).frame
+        &self.frames.get(f.0).frame
     }
 
     /// The level of a frame: the greatest of its callback's and of those that it holds.

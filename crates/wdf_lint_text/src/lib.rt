@@ -7,17 +7,9 @@ ghost use Rattle.wdf_lint_text.specs.Lines.{answer_status, answer_text, finding_
 
 use itoa::Buffer;
 use std::alloc::Global;
-use wdf_base::Memory;
+use wdf_base::{Memory, push_text};
 use wdf_exit::Exit;
 use wdf_lint::{FindingList, LintAnswer};
-
-/// Adds these bytes.
-fn push_text(out: &mut Vec<u8>, text: &[u8]) -> Result<(), Memory>
-    ensures { OnOk result (out.new.items ≡ out.old.items ++ text.now) }
-{
-    out.extend_from_slice(text)?;
-    Ok(())
-}
 
 /// Adds a number in decimal digits.
 fn push_number(out: &mut Vec<u8>, number: u32) -> Result<(), Memory>

@@ -93,7 +93,7 @@ all_pass p r part (x ∷ xs) many = by (p x) (r x) refl refl many (fewer p r par
     by false false e f many few rest = rest many
 
 -- where no entry passes, none that is looked up does
-entry_fails : {T : Type 0} (p : T → Bool) (blank : T) → p blank ≡ false → (all : List T) (k : ℕ) → list_any p all ≡ false → p (entry blank all k) ≡ false
+pub entry_fails : {T : Type 0} (p : T → Bool) (blank : T) → p blank ≡ false → (all : List T) (k : ℕ) → list_any p all ≡ false → p (entry blank all k) ≡ false
 entry_fails p blank none [] k h = none
 entry_fails p blank none (x ∷ all) zero h = (or_parts (p x) (list_any p all) h).0
 entry_fails p blank none (x ∷ all) (suc k) h = entry_fails p blank none all k (or_parts (p x) (list_any p all) h).1

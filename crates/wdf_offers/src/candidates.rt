@@ -6,7 +6,7 @@ ghost use Rattle.wdf_model.specs.rules.Groups as groups;
 ghost use Rattle.wdf_model.specs.parts.Cpus as cpus;
 ghost use Rattle.wdf_model.specs.parts.Targets as targets;
 
-use wdf_base::{Agent, Callback, Cpu, Event, ObjectId, Place, Rank, Step, same_callback};
+use wdf_base::{Agent, Callback, Cpu, Event, ObjectId, Place, Rank, Step};
 use wdf_model::Group;
 use wdf_parts::Parts;
 use wdf_plan_index::IndexedPlan;
@@ -189,17 +189,6 @@ pub(crate) fn parked_len<A: Agent>(parts: &Parts<A>) -> usize
     parts.cpus().parked_len()
 }
 
-/// Whether a callback is declared on some object.
-pub(crate) fn is_declared_somewhere(plan: &IndexedPlan, callback: Callback) -> bool
-    ensures { result ≡ groups.is_declared_somewhere plan.now callback }
-{
-    plan.plan()
-        .scripts
-        .as_slice()
-        .iter()
-        .any(|script| same_callback(script.callback, callback))
-}
-
 /// How many places the starts of a rank have; a callback that nothing declares has none.
 pub fn places_of_rank<A: Agent>(plan: &IndexedPlan, parts: &Parts<A>, rank: Rank) -> usize
     ensures value { result ≡ groups.places_of_rank plan.now parts.now rank }
@@ -209,22 +198,18 @@ pub fn places_of_rank<A: Agent>(plan: &IndexedPlan, parts: &Parts<A>, rank: Rank
         Rank::Deferred => 1,
         Rank::Timed => parts.timers().len() as usize,
         Rank::Work => parts.work_items().len() as usize,
-        Rank::Cleanup => places_if(plan, Callback::EvtCleanupCallback, parts.tree().len()),
-        Rank::Destroy => places_if(plan, Callback::EvtDestroyCallback, parts.tree().len()),
+        Rank::Cleanup => places_if(plan.declares_cleanups(), parts.tree().len()),
+        Rank::Destroy => places_if(plan.declares_destroys(), parts.tree().len()),
         _ => declared_end(plan),
     }
 }
 
 /// So many places, where something declares the callback.
-fn places_if(plan: &IndexedPlan, callback: Callback, places: u32) -> usize
-    ensures value { result ≡ groups.places_if (groups.is_declared_somewhere plan.now callback) places }
+fn places_if(declared: bool, places: u32) -> usize
+    ensures value { result ≡ groups.places_if declared places }
     ensures small { result ≤ 2 ^ 32 }
 {
-    if is_declared_somewhere(plan, callback) {
-        places as usize
-    } else {
-        0
-    }
+    if declared { places as usize } else { 0 }
 }
 
 /// How many places the starts of a rank for the requests of an object have.

@@ -13,7 +13,6 @@ ghost use Rattle.wdf_offers.specs.Lesser.{lesser_of};
 ghost use Rattle.wdf_offers.specs.declared.leaving.Leaving.TheVariants as how;
 ghost use Rattle.wdf_offers.specs.Search as search;
 
-use crate::candidates::is_declared_somewhere;
 use crate::idle::DISPATCH_LEVEL;
 use wdf_base::{Agent, Callback, ClassInfo, Cpu, Event, Handle, ObjectId, Rank};
 use wdf_model::Group;
@@ -127,7 +126,7 @@ fn is_serial(class: &ClassInfo) -> bool
 fn is_cleanup_over<A: Agent>(plan: &IndexedPlan, parts: &Parts<A>) -> bool
     ensures { IsTrue result → IsNumbered plan.now parts.now how.Cleanup }
 {
-    if !is_declared_somewhere(plan, Callback::EvtCleanupCallback) {
+    if !plan.declares_cleanups() {
         return true;
     }
     let end = parts.tree().len();
@@ -138,7 +137,7 @@ fn is_cleanup_over<A: Agent>(plan: &IndexedPlan, parts: &Parts<A>) -> bool
 fn is_destroy_over<A: Agent>(plan: &IndexedPlan, parts: &Parts<A>) -> bool
     ensures { IsTrue result → IsNumbered plan.now parts.now how.Destroy }
 {
-    if !is_declared_somewhere(plan, Callback::EvtDestroyCallback) {
+    if !plan.declares_destroys() {
         return true;
     }
     let end = parts.tree().len();

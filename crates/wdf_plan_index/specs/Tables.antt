@@ -1,7 +1,9 @@
 -- What the tables of a plan say.
 use Rattle.std.specs.Prelude.{◌≡◌, length}
+use Rattle.wdf_base.specs.declared.call.Callback.TheVariants as callback
 use Rattle.wdf_base.specs.declared.plan.Plan.{Plan}
 use Rattle.wdf_model.specs.Plans.{devices_of, targets_of}
+use Rattle.wdf_model.specs.rules.Groups.{is_declared_somewhere}
 use Rattle.wdf_plan_index.specs.Handlers.{handlers_of}
 use Rattle.wdf_plan_index.specs.Keys.{devices_over, script_names}
 use Rattle.wdf_plan_index.specs.Owners.{names_of}
@@ -19,3 +21,5 @@ pub record AreTables (plan : Plan) (tables : Tables) : Type 0 where
   pub belongings : tables.belongings ≡ devices_over plan
   pub handlers : tables.handlers.items ≡ handlers_of plan
   pub serving : tables.serving.items ≡ serving_of plan (devices_of plan)
+  pub cleans : tables.cleans ≡ is_declared_somewhere plan callback.EvtCleanupCallback
+  pub destroys : tables.destroys ≡ is_declared_somewhere plan callback.EvtDestroyCallback

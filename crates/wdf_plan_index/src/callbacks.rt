@@ -2,6 +2,7 @@
 ghost use Rattle.std.specs.Prelude.{◌≡◌};
 ghost use Rattle.wdf_base.specs.Plan.{script_of};
 ghost use Rattle.wdf_model.specs.Plans as plans;
+ghost use Rattle.wdf_model.specs.rules.Groups as groups;
 ghost use Rattle.wdf_plan_index.specs.Keys as keys;
 
 use crate::indexed::IndexedPlan;
@@ -9,6 +10,7 @@ use crate::keys::owner_name;
 use crate::places::Places;
 use wdf_base::{
     Callback, CallbackLevel, Declared, ExecutionLevel, Irql, ObjectId, Plan, RequestForm,
+    same_callback,
 };
 
 impl IndexedPlan {
@@ -28,6 +30,20 @@ impl IndexedPlan {
         ensures { result ≡ plans.declares self.now callback o.0 }
     {
         self.script_on(callback, self.declared(o)).is_some()
+    }
+
+    /// Whether something declares EvtCleanupCallback.
+    pub fn declares_cleanups(&self) -> bool
+        ensures { result ≡ groups.is_declared_somewhere self.now Callback.EvtCleanupCallback }
+    {
+        self.tables.cleans
+    }
+
+    /// Whether something declares EvtDestroyCallback.
+    pub fn declares_destroys(&self) -> bool
+        ensures { result ≡ groups.is_declared_somewhere self.now Callback.EvtDestroyCallback }
+    {
+        self.tables.destroys
     }
 
     /// The handler of a queue for a type of requests: that for the type, else that for all types, else
@@ -78,6 +94,16 @@ impl IndexedPlan {
             CallbackLevel::OfQueue => self.queue_level(o),
         }
     }
+}
+
+/// Whether a callback is declared on some object. It goes along all scripts.
+pub(crate) fn is_declared_somewhere(plan: &Plan, callback: Callback) -> bool
+    ensures { result ≡ groups.is_declared_somewhere plan.now callback }
+{
+    plan.scripts
+        .as_slice()
+        .iter()
+        .any(|script| same_callback(script.callback, callback))
 }
 
 /// The number of the script of a callback on an object, found by the names that the scripts' owners have.

@@ -1,13 +1,14 @@
 ghost use Rattle.std.specs.Prelude.{IfOk};
 ghost use Rattle.wdf_plan_index.specs.Tables.{AreTables};
 
+use crate::callbacks::is_declared_somewhere;
 use crate::handlers::{Handlers, handlers_of};
 use crate::keys::{devices_over, script_names};
 use crate::owners::{Owner, ids_of};
 use crate::places::Places;
 use crate::serving::{Serving, serving_of};
 use std::alloc::Global;
-use wdf_base::{Memory, Plan};
+use wdf_base::{Callback, Memory, Plan};
 
 /// What is found in a plan without a search through all that is declared.
 #[derive(Drop)]
@@ -24,12 +25,18 @@ pub(crate) struct Tables {
     pub(crate) handlers: Vec<Handlers>,
     /// The queues that take what arrives at each device, in the order of the devices.
     pub(crate) serving: Vec<Serving>,
+    /// Whether something declares EvtCleanupCallback.
+    pub(crate) cleans: bool,
+    /// Whether something declares EvtDestroyCallback.
+    pub(crate) destroys: bool,
 }
 
 /// The tables of a plan.
 pub(crate) fn tables_of(alloc: Global, plan: &Plan) -> Result<Tables, Memory>
     ensures { IfOk result (λ tables. AreTables plan.now tables) }
 {
+    let cleans = is_declared_somewhere(plan, Callback::EvtCleanupCallback);
+    let destroys = is_declared_somewhere(plan, Callback::EvtDestroyCallback);
     let ids = ids_of(alloc, plan, Owner::Device)?;
     let devices = Places::make(alloc, ids, plan.declared_len())?;
     let targets = ids_of(alloc, plan, Owner::Target)?;
@@ -47,5 +54,7 @@ pub(crate) fn tables_of(alloc: Global, plan: &Plan) -> Result<Tables, Memory>
         belongings,
         handlers,
         serving,
+        cleans,
+        destroys,
     })
 }

@@ -5,7 +5,7 @@ ghost use Rattle.wdf_shrink.specs.Texts.{block_text, inside_after, is_order, ord
 
 use itoa::Buffer;
 use std::alloc::Global;
-use wdf_base::Memory;
+use wdf_base::{Memory, push_text};
 use wdf_scene::{NumberedLine, Scene, SceneLine};
 use wdf_scene_lines::add_line;
 use wdf_tokens::{Keyword, Token, keyword_token, push_line};
@@ -67,14 +67,6 @@ fn push_lines(alloc: Global, out: &mut Vec<u8>, scene: &Scene) -> Result<(), Mem
         push_outside(out, &mut tokens, scene, inside, line)?;
         inside = inside_after(inside, &line.form);
     }
-    Ok(())
-}
-
-/// Adds these bytes.
-fn push_text(out: &mut Vec<u8>, text: &[u8]) -> Result<(), Memory>
-    ensures { OnOk result (out.new.items ≡ out.old.items ++ text.now) }
-{
-    out.extend_from_slice(text)?;
     Ok(())
 }
 

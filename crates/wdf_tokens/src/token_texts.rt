@@ -4,15 +4,8 @@ ghost use Rattle.wdf_tokens.specs.TokenTexts as texts;
 
 use crate::token::Token;
 use itoa::Buffer;
-use wdf_base::Memory;
+use wdf_base::{Memory, push_text};
 use wdf_scene::operator_word;
-
-fn push_text(out: &mut Vec<u8>, text: &[u8]) -> Result<(), Memory>
-    ensures { OnOk result (out.new.items ≡ out.old.items ++ text.now) }
-{
-    out.extend_from_slice(text)?;
-    Ok(())
-}
 
 fn push_number(out: &mut Vec<u8>, number: u64) -> Result<(), Memory>
     ensures { OnOk result (out.new.items ≡ out.old.items ++ decimal number) }

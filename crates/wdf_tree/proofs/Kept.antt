@@ -70,22 +70,21 @@ nearest_kept before (n ∷ ns) (suc o) m k p = nearest_kept (before ++ own_devic
 -- ---- an object more
 
 -- no object is counted but what is there
-pub few_counts : {ns : List Node} {ds : List ObjectId} {count r s : ℕ} {kin waiting : Family} → IsKept ns ds count r s kin waiting → count ≤ length ns
-few_counts {ns} {ds} {count} {r} {s} {kin} {waiting} h = let few = count_by-le-length counts ns in omega (arith, h.counted)
+pub few_counts : {ns : List Node} {ds : List ObjectId} {count s : ℕ} {kin waiting : Family} → IsKept ns ds count s kin waiting → count ≤ length ns
+few_counts {ns} {ds} {count} {s} {kin} {waiting} h = let few = count_by-le-length counts ns in omega (arith, h.counted)
 
-pub devices_as_many : {ns : List Node} {ds : List ObjectId} {count r s : ℕ} {kin waiting : Family} → IsKept ns ds count r s kin waiting → length ds ≡ length ns
-devices_as_many {ns} {ds} {count} {r} {s} {kin} {waiting} h =
+pub devices_as_many : {ns : List Node} {ds : List ObjectId} {count s : ℕ} {kin waiting : Family} → IsKept ns ds count s kin waiting → length ds ≡ length ns
+devices_as_many {ns} {ds} {count} {s} {kin} {waiting} h =
     let one = length-map ds (λ (d : ObjectId). d.0) in
     let other = nearest_length [] ns in
     let same = ap length h.devices in
     omega arith
 
 -- the id 0 alone
-pub kept_at_first : (ns : List Node) (ds : List ObjectId) (r s n : ℕ) (kin waiting : Family) → ns ≡ gone ∷ [] → ds ≡ record { 0 = 1 } ∷ [] → OBJECTS ≤ r → OBJECTS ≤ s → n ≡ OBJECTS
-    → kin ≡ record { lists = replicate n []; items = n } → waiting ≡ record { lists = replicate n []; items = n } → IsKept ns ds 0 r s kin waiting
-kept_at_first ns ds r s n kin waiting one first h k all empty none = rw (one, first) (record {
+pub kept_at_first : (ns : List Node) (ds : List ObjectId) (s n : ℕ) (kin waiting : Family) → ns ≡ gone ∷ [] → ds ≡ record { 0 = 1 } ∷ [] → OBJECTS ≤ s → n ≡ OBJECTS
+    → kin ≡ record { lists = replicate n []; items = n } → waiting ≡ record { lists = replicate n []; items = n } → IsKept ns ds 0 s kin waiting
+kept_at_first ns ds s n kin waiting one first k all empty none = rw (one, first) (record {
   few = omega arith;
-  room_for_nodes = h;
   room_for_devices = k;
   devices = refl;
   counted = refl;
@@ -102,14 +101,13 @@ live_left : (l : Life) → is_live l ≡ true → is_gone l ≡ false
 live_left life.Gone h = absurd (false≢true h)
 live_left _ h = refl
 
-pub kept_by_push : {ns : List Node} {ds : List ObjectId} {count r s : ℕ} {kin waiting : Family} (n : Node) (d : ObjectId) (id : ℕ) → IsKept ns ds count r s kin waiting → length ns < OBJECTS → is_live n.life ≡ true
+pub kept_by_push : {ns : List Node} {ds : List ObjectId} {count s : ℕ} {kin waiting : Family} (n : Node) (d : ObjectId) (id : ℕ) → IsKept ns ds count s kin waiting → length ns < OBJECTS → is_live n.life ≡ true
     → d.0 ≡ own_device (nearest_devices [] ns) (length ns) n → id ≡ length ns
-    → IsKept (ns ++ n ∷ []) (ds ++ d ∷ []) (count + cond (counts n) 1 0) r s (joined kin n.parent.0 id) (joined waiting n.parent.0 id)
-kept_by_push {ns} {ds} {count} {r} {s} {kin} {waiting} n d id h room live e next =
+    → IsKept (ns ++ n ∷ []) (ds ++ d ∷ []) (count + cond (counts n) 1 0) s (joined kin n.parent.0 id) (joined waiting n.parent.0 id)
+kept_by_push {ns} {ds} {count} {s} {kin} {waiting} n d id h room live e next =
     let there = live_left n.life live in
     rw next (record {
       few = let one = length_push ns n in omega (arith, h.few);
-      room_for_nodes = h.room_for_nodes;
       room_for_devices = h.room_for_devices;
       devices =
           let as_many : length (nearest_devices [] ns) ≡ length ns = nearest_length [] ns ∙ omega arith in
@@ -135,11 +133,10 @@ first_kept [] o m e = refl
 first_kept (n ∷ ns) zero m e = e
 first_kept (n ∷ ns) (suc o) m e = refl
 
-pub kept_by_set : {ns : List Node} {ds : List ObjectId} {count r s : ℕ} {kin waiting : Family} (o : ℕ) (m : Node) (kin' waiting' : Family) → IsKept ns ds count r s kin waiting → o < length ns → Stays (entry gone ns o) m
-    → HoldsKin is_left (slice_set ns o m) kin' → HoldsKin is_waiting (slice_set ns o m) waiting' → IsKept (slice_set ns o m) ds count r s kin' waiting'
-kept_by_set {ns} {ds} {count} {r} {s} {kin} {waiting} o m kin' waiting' h there stays left waits = record {
+pub kept_by_set : {ns : List Node} {ds : List ObjectId} {count s : ℕ} {kin waiting : Family} (o : ℕ) (m : Node) (kin' waiting' : Family) → IsKept ns ds count s kin waiting → o < length ns → Stays (entry gone ns o) m
+    → HoldsKin is_left (slice_set ns o m) kin' → HoldsKin is_waiting (slice_set ns o m) waiting' → IsKept (slice_set ns o m) ds count s kin' waiting'
+kept_by_set {ns} {ds} {count} {s} {kin} {waiting} o m kin' waiting' h there stays left waits = record {
   few = let one = as_long ns o m in omega (arith, h.few);
-  room_for_nodes = h.room_for_nodes;
   room_for_devices = h.room_for_devices;
   devices = h.devices ∙ sym (nearest_kept [] ns o m stays.kind stays.parent);
   counted =
@@ -162,6 +159,12 @@ kept_by_set {ns} {ds} {count} {r} {s} {kin} {waiting} o m kin' waiting' h there 
 pub read_entry : {T : Type 0} (blank : T) (xs : List T) (o : ℕ) (x : T) → o < length xs → x ≡ slice_index_or xs o x → entry blank xs o ≡ x
 read_entry blank xs o x h e = sym (get_or_read xs o x h e blank)
 
+-- an entry that is there was read
+pub read_there : {T : Type 0} (blank : T) (xs : List T) (o : ℕ) (x : T) → o < length xs → x ≡ entry blank xs o → x ≡ slice_index_or xs o x
+read_there blank [] o x h e = absurd (omega arith)
+read_there blank (y ∷ ys) zero x h e = e
+read_there blank (y ∷ ys) (suc o) x h e = read_there blank ys o x (omega arith) e
+
 stays_read : (ns : List Node) (o : ℕ) (n m : Node) → o < length ns → n ≡ slice_index_or ns o n → Stays n m → Stays (entry gone ns o) m
 stays_read ns o n m there read stays =
     let e = read_entry gone ns o n there read in
@@ -172,17 +175,17 @@ stays_read ns o n m there read stays =
     }
 
 -- a write that keeps the life as far as the children of its parent are concerned
-pub kept_by_write : {ns : List Node} {ds : List ObjectId} {count r s : ℕ} {kin waiting : Family} (o : ℕ) (n m : Node) → IsKept ns ds count r s kin waiting → o < length ns → n ≡ slice_index_or ns o n
-    → Stays n m → is_past_cleanup m.life ≡ is_past_cleanup n.life → IsKept (slice_set ns o m) ds count r s kin waiting
-kept_by_write {ns} {ds} {count} {r} {s} {kin} {waiting} o n m h there read stays past =
+pub kept_by_write : {ns : List Node} {ds : List ObjectId} {count s : ℕ} {kin waiting : Family} (o : ℕ) (n m : Node) → IsKept ns ds count s kin waiting → o < length ns → n ≡ slice_index_or ns o n
+    → Stays n m → is_past_cleanup m.life ≡ is_past_cleanup n.life → IsKept (slice_set ns o m) ds count s kin waiting
+kept_by_write {ns} {ds} {count} {s} {kin} {waiting} o n m h there read stays past =
     let all = stays_read ns o n m there read stays in
     let waits : is_waiting m.life ≡ is_waiting (entry gone ns o).life = ap not past ∙ ap (λ (x : Node). is_waiting x.life) (sym (read_entry gone ns o n there read)) in
     kept_by_set o m kin waiting h there all (holds_kept is_left ns kin o m h.kin all.parent (ap not all.gone)) (holds_kept is_waiting ns waiting o m h.waiting_kin all.parent waits)
 
 -- a cleanup: the object leaves the list of those that wait
-pub kept_by_cleanup : {ns : List Node} {ds : List ObjectId} {count r s : ℕ} {kin waiting : Family} (o : ℕ) (n m : Node) → IsKept ns ds count r s kin waiting → o < length ns → n ≡ slice_index_or ns o n
-    → Stays n m → is_past_cleanup m.life ≡ true → IsKept (slice_set ns o m) ds count r s kin (record waiting { lists = map (without o) waiting.lists })
-kept_by_cleanup {ns} {ds} {count} {r} {s} {kin} {waiting} o n m h there read stays past =
+pub kept_by_cleanup : {ns : List Node} {ds : List ObjectId} {count s : ℕ} {kin waiting : Family} (o : ℕ) (n m : Node) → IsKept ns ds count s kin waiting → o < length ns → n ≡ slice_index_or ns o n
+    → Stays n m → is_past_cleanup m.life ≡ true → IsKept (slice_set ns o m) ds count s kin (record waiting { lists = map (without o) waiting.lists })
+kept_by_cleanup {ns} {ds} {count} {s} {kin} {waiting} o n m h there read stays past =
     let all = stays_read ns o n m there read stays in
     kept_by_set o m kin (record waiting { lists = map (without o) waiting.lists }) h there all (holds_kept is_left ns kin o m h.kin all.parent (ap not all.gone))
     (holds_without is_waiting ns waiting o m h.waiting_kin (ap not past))
@@ -256,8 +259,8 @@ live_stands life.Live h = record { live = refl; gone = refl; waits = refl }
 live_stands _ h = absurd (false≢true h)
 
 -- the id 0 is not live
-pub none_live : {ns : List Node} {ds : List ObjectId} {count r s : ℕ} {kin waiting : Family} → IsKept ns ds count r s kin waiting → is_live (entry gone ns 0).life ≡ false
-none_live {ns} {ds} {count} {r} {s} {kin} {waiting} h = gone_off (entry gone ns 0).life h.ends.none
+pub none_live : {ns : List Node} {ds : List ObjectId} {count s : ℕ} {kin waiting : Family} → IsKept ns ds count s kin waiting → is_live (entry gone ns 0).life ≡ false
+none_live {ns} {ds} {count} {s} {kin} {waiting} h = gone_off (entry gone ns 0).life h.ends.none
   where
     gone_off : (l : Life) → is_gone l ≡ true → is_live l ≡ false
     gone_off life.Live e = absurd (false≢true e)
@@ -272,9 +275,9 @@ cleaned_stands : (l : Life) → is_cleaned l ≡ true → is_gone l ≡ false
 cleaned_stands life.Gone h = absurd (false≢true h)
 cleaned_stands _ h = refl
 
-pub few_counted : {ns : List Node} {ds : List ObjectId} {count r s : ℕ} {kin waiting : Family} (o : ℕ) (n : Node) → IsKept ns ds count r s kin waiting → o < length ns → n ≡ slice_index_or ns o n
+pub few_counted : {ns : List Node} {ds : List ObjectId} {count s : ℕ} {kin waiting : Family} (o : ℕ) (n : Node) → IsKept ns ds count s kin waiting → o < length ns → n ≡ slice_index_or ns o n
     → cond (counts n) 1 0 ≤ count
-few_counted {ns} {ds} {count} {r} {s} {kin} {waiting} o n h there read =
+few_counted {ns} {ds} {count} {s} {kin} {waiting} o n h there read =
     let one = get_or-le-sum_by (λ (x : Node). cond (counts x) 1 0) ns o n there in
     let same : cond {A = ℕ} (counts (slice_index_or ns o n)) 1 0 ≡ cond {A = ℕ} (counts n) 1 0 = ap (λ (x : Node). cond {A = ℕ} (counts x) 1 0) (sym read) in
     omega (arith, h.counted)
@@ -316,9 +319,9 @@ cleaned_off : (l : Life) → is_cleaned l ≡ true → is_waiting l ≡ false
 cleaned_off life.Cleaned h = refl
 cleaned_off _ h = absurd (false≢true h)
 
-pub kept_by_end : {ns : List Node} {ds : List ObjectId} {count r s : ℕ} {kin waiting : Family} (o less : ℕ) (n m : Node) (d : ObjectId) → IsKept ns ds count r s kin waiting → MayEnd ns o
-    → n ≡ slice_index_or ns o n → m ≡ gone → d.0 ≡ 1 → less + cond (counts n) 1 0 ≡ count → IsKept (slice_set ns o m) (slice_set ds o d) less r s (record kin { lists = map (without o) kin.lists }) waiting
-kept_by_end {ns} {ds} {count} {r} {s} {kin} {waiting} o less n m d h may read blank driver e =
+pub kept_by_end : {ns : List Node} {ds : List ObjectId} {count s : ℕ} {kin waiting : Family} (o less : ℕ) (n m : Node) (d : ObjectId) → IsKept ns ds count s kin waiting → MayEnd ns o
+    → n ≡ slice_index_or ns o n → m ≡ gone → d.0 ≡ 1 → less + cond (counts n) 1 0 ≡ count → IsKept (slice_set ns o m) (slice_set ds o d) less s (record kin { lists = map (without o) kin.lists }) waiting
+kept_by_end {ns} {ds} {count} {s} {kin} {waiting} o less n m d h may read blank driver e =
     let cleaned = may.cleaned in
     let none = may.childless in
     let there : o < length ns = there_if_cleaned ns o cleaned in
@@ -326,7 +329,6 @@ kept_by_end {ns} {ds} {count} {r} {s} {kin} {waiting} o less n m d h may read bl
     let same : cond {A = ℕ} (counts (entry gone ns o)) 1 0 ≡ cond {A = ℕ} (counts n) 1 0 = ap (λ (x : Node). cond {A = ℕ} (counts x) 1 0) (read_entry gone ns o n there read) in
     rw blank (record {
       few = let one = as_long ns o gone in omega (arith, h.few);
-      room_for_nodes = h.room_for_nodes;
       room_for_devices = h.room_for_devices;
       devices =
           map-set (λ (x : ObjectId). x.0) ds o d

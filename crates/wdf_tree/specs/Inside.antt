@@ -16,7 +16,7 @@ use Rattle.wdf_tree.specs.Turns.{HoldsCounted, HoldsEnds, HoldsTurns}
 use Rattle.wdf_tree.specs.declared.tree.Tree.TheInside.{Inside}
 
 abbrev pub tree_in : Inside → Tree
-tree_in t = record { limit = t.limit; nodes = t.nodes.items }
+tree_in t = record { limit = t.limit; nodes = t.nodes }
 
 -- an object that has no place in the tree: it isn't a device and has no parent
 abbrev pub is_alone : Node → Bool
@@ -33,9 +33,8 @@ pub record EndsAlone (nodes : List Node) : Type 0 where
   pub alone : list_all ends_alone nodes ≡ true
 
 -- The nearest devices, a count and two families of children are kept, and there is room for each object.
-pub record IsKept (nodes : List Node) (nearest : List ObjectId) (count node_room device_room : ℕ) (children waiting : Family) : Type 0 where
+pub record IsKept (nodes : List Node) (nearest : List ObjectId) (count device_room : ℕ) (children waiting : Family) : Type 0 where
   pub few : length nodes ≤ OBJECTS
-  pub room_for_nodes : OBJECTS ≤ node_room
   pub room_for_devices : OBJECTS ≤ device_room
   pub devices : map (λ d. d.0) nearest ≡ nearest_devices [] nodes
   pub counted : count ≡ count_by counts nodes
@@ -46,8 +45,8 @@ pub record IsKept (nodes : List Node) (nearest : List ObjectId) (count node_room
 
 -- All that is kept: this, the sets of the objects whose deletion isn't finished, those of what may be cleaned up or destroyed, and that of what counts against the limit.
 pub record IsSound (t : Inside) : Type 0 where
-  pub kept : IsKept t.nodes.items t.devices.items t.count (vec_capacity t.nodes) (vec_capacity t.devices) t.children t.waiting
-  pub leaving : HoldsLeaving t.nodes.items t.asked t.cleaned
-  pub turns : HoldsTurns t.nodes.items t.waiting.lists t.turns
-  pub ends : HoldsEnds t.nodes.items t.children.lists t.ends
-  pub counted : HoldsCounted t.nodes.items t.counted
+  pub kept : IsKept t.nodes t.devices.items t.count (vec_capacity t.devices) t.children t.waiting
+  pub leaving : HoldsLeaving t.nodes t.asked t.cleaned
+  pub turns : HoldsTurns t.nodes t.waiting.lists t.turns
+  pub ends : HoldsEnds t.nodes t.children.lists t.ends
+  pub counted : HoldsCounted t.nodes t.counted

@@ -14,9 +14,10 @@ use wdf_base::ObjectId;
 use wdf_ilist::Links;
 use wdf_model::Node;
 use wdf_sets::IdSet;
+use wdf_slots::Slots;
 
 /// The objects of the machine: what they are, who is above whom, and how far the deletion of each
-/// has come. An object that is gone keeps its id.
+/// has come. An object that is gone keeps its id, and nothing else.
 ///
 /// Contracts see wdf_model's record of the tree. Every call but [`Tree::make`] takes no memory.
 #[derive(Drop)]
@@ -24,7 +25,7 @@ pub struct Tree {
     /// The most counted objects at one time.
     limit: u32,
     /// The objects by id. The id 0 is none.
-    nodes: Vec<Node>,
+    nodes: Slots<Node>,
     /// The nearest device at or above each object, or the driver object.
     devices: Vec<ObjectId>,
     /// How many counted objects there are.

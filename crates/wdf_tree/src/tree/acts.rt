@@ -18,7 +18,7 @@ impl Tree {
         ensures size { length self.new.nodes ≡ length self.old.nodes }
     {
         let held = self.references(o);
-        self.nodes[o.0 as usize].references = held + 1;
+        self.nodes.at_mut(o.0).references = held + 1;
         note_end(&mut self.ends, &self.nodes, &self.children, o);
     }
 
@@ -32,7 +32,7 @@ impl Tree {
         ensures size { length self.new.nodes ≡ length self.old.nodes }
     {
         let held = self.references(o);
-        self.nodes[o.0 as usize].references = held.saturating_sub(1);
+        self.nodes.at_mut(o.0).references = held.saturating_sub(1);
         note_end(&mut self.ends, &self.nodes, &self.children, o);
         held > 0
     }
@@ -45,8 +45,8 @@ impl Tree {
         ensures size { length self.new.nodes ≡ length self.old.nodes }
     {
         match callback {
-            Callback::EvtCleanupCallback => self.nodes[o.0 as usize].cleanup_started = true,
-            Callback::EvtDestroyCallback => self.nodes[o.0 as usize].destroy_started = true,
+            Callback::EvtCleanupCallback => self.nodes.at_mut(o.0).cleanup_started = true,
+            Callback::EvtDestroyCallback => self.nodes.at_mut(o.0).destroy_started = true,
             _ => {}
         }
     }
@@ -59,6 +59,6 @@ impl Tree {
         ensures done { self.new ≡ tree.set self.old o.0 k v }
         ensures size { length self.new.nodes ≡ length self.old.nodes }
     {
-        self.nodes[o.0 as usize].cells[k as usize] = v;
+        self.nodes.at_mut(o.0).cells[k as usize] = v;
     }
 }

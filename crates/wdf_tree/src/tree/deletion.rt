@@ -9,7 +9,7 @@ ghost use Rattle.wdf_model.specs.parts.Tree as tree;
 use super::Tree;
 use super::ends::{note_end, note_ended};
 use super::gather::Subtree;
-use super::making::{DRIVER, counted, gone};
+use super::making::{DRIVER, counted};
 use super::turns::{note_around, note_cleaned};
 use wdf_base::{Life, ObjectId};
 
@@ -32,7 +32,7 @@ impl Tree {
         ensures size { length self.new.nodes ≡ length self.old.nodes }
     {
         if self.life(o).is_live() {
-            self.nodes[o.0 as usize].life = Life::Asked;
+            self.nodes.at_mut(o.0).life = Life::Asked;
             self.asked.put(o.0, true);
             note_around(&mut self.turns, &self.nodes, &self.waiting, o, None);
         }
@@ -120,7 +120,7 @@ impl Tree {
         ensures size { length self.new.nodes ≡ length self.old.nodes }
     {
         let parent = self.parent(o);
-        self.nodes[o.0 as usize].life = Life::Cleaned;
+        self.nodes.at_mut(o.0).life = Life::Cleaned;
         let _list = self.waiting.unlink(o.0);
         self.asked.put(o.0, false);
         self.cleaned.put(o.0, true);
@@ -146,8 +146,8 @@ impl Tree {
         ensures size { length self.new.nodes ≡ length self.old.nodes }
     {
         let parent = self.parent(o);
-        self.count -= counted(&self.nodes[o.0 as usize]);
-        self.nodes[o.0 as usize] = gone();
+        self.count -= counted(self.nodes.get(o.0));
+        self.nodes.remove(o.0);
         self.devices[o.0 as usize] = DRIVER;
         let _list = self.children.unlink(o.0);
         self.cleaned.put(o.0, false);

@@ -13,25 +13,24 @@ use wdf_ilist::Links;
 use wdf_maps::object_at;
 use wdf_model::Node;
 use wdf_sets::IdSet;
+use wdf_slots::Slots;
 
 /// Whether an object may be destroyed: it is cleaned up, the driver holds no reference to it, and no child of it is
 /// left.
-fn is_end(nodes: &[Node], children: &Links, o: ObjectId) -> bool
+fn is_end(nodes: &Slots<Node>, children: &Links, o: ObjectId) -> bool
     ensures { result ≡ is_end_by nodes.now children.now.lists o.0 }
 {
-    match nodes.get(o.0 as usize) {
-        Some(node) => { node.life.is_cleaned() && node.references == 0 && children.is_empty(o.0) }
-        None => false,
-    }
+    let node = nodes.get(o.0);
+    node.life.is_cleaned() && node.references == 0 && children.is_empty(o.0)
 }
 
 /// Notes whether an object may be destroyed.
-pub(super) fn note_end(ends: &mut IdSet, nodes: &[Node], children: &Links, o: ObjectId)
+pub(super) fn note_end(ends: &mut IdSet, nodes: &Slots<Node>, children: &Links, o: ObjectId)
     requires room { length nodes.now ≤ length ends.old }
     ensures noted { AreNoted (is_end_by nodes.now children.now.lists) ends.old ends.new }
     ensures own { o.0 < length nodes.now → is_in o.0 ends.new ≡ is_end_by nodes.now children.now.lists o.0 }
 {
-    if (o.0 as usize) < nodes.len() {
+    if o.0 < nodes.len() {
         ends.put(o.0, is_end(nodes, children, o));
     }
 }
@@ -39,7 +38,7 @@ pub(super) fn note_end(ends: &mut IdSet, nodes: &[Node], children: &Links, o: Ob
 /// Notes it of an object that was destroyed, and of its parent.
 pub(super) fn note_ended(
     ends: &mut IdSet,
-    nodes: &[Node],
+    nodes: &Slots<Node>,
     children: &Links,
     o: ObjectId,
     parent: ObjectId,

@@ -157,7 +157,7 @@ impl Tree {
         ensures ids { ids.new.items ≡ tree.subtree self.now o }
         ensures capacity { vec_capacity ids.new ≡ vec_capacity ids.old }
     {
-        for id in 0..self.nodes.len() as u32 {
+        for id in 0..self.nodes.len() {
             push_if(ids, id, self.is_within(o, id));
         }
     }

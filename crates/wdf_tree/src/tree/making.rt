@@ -15,25 +15,10 @@ use wdf_base::{Declared, Kind, Life, Memory, ObjectId, Plan, Value};
 use wdf_ilist::Links;
 use wdf_model::{CELLS, Node, OBJECTS};
 use wdf_sets::{IdSet, four_sets};
+use wdf_slots::{ById, Slots};
 
 /// The driver object.
 pub(super) const DRIVER: ObjectId = ObjectId(1);
-
-/// What is kept of an object that is gone.
-pub(super) fn gone() -> Node
-    ensures { result ≡ tree.gone }
-{
-    Node {
-        life: Life::Gone,
-        kind: Kind::General,
-        class: 0,
-        parent: ObjectId(0),
-        references: 0,
-        cells: [Value::Num(0); CELLS],
-        cleanup_started: false,
-        destroy_started: false,
-    }
-}
 
 /// An object as it is made.
 fn new_node(kind: Kind, class: u16, parent: ObjectId) -> Node
@@ -130,7 +115,7 @@ impl Tree {
     {
         self.limit = limit;
         self.nodes.clear();
-        self.nodes.push_reserved(gone());
+        self.nodes.push(Node::blank());
         self.devices.clear();
         self.devices.push_reserved(DRIVER);
         self.count = 0;
@@ -148,9 +133,9 @@ impl Tree {
         requires { room ≡ OBJECTS }
         ensures { IfOk result (λ made. made ≡ record { limit = limit; nodes = tree.gone ∷ [] }) }
     {
-        let mut nodes = Vec::with_capacity(alloc, room as usize)?;
+        let mut nodes = Slots::make(alloc)?;
         let mut devices = Vec::with_capacity(alloc, room as usize)?;
-        nodes.push_reserved(gone());
+        nodes.push(Node::blank());
         devices.push_reserved(DRIVER);
         let children = Links::make(alloc, room, room)?;
         let waiting = Links::make(alloc, room, room)?;
@@ -198,7 +183,7 @@ impl Tree {
         self.counted.put(id, is_counted(&node));
         join(&mut self.children, parent, id);
         join(&mut self.waiting, parent, id);
-        self.nodes.push_reserved(node);
+        self.nodes.push(node);
         self.devices.push_reserved(device);
         note_joined(&mut self.turns, &self.nodes, &self.waiting, parent, last);
         note_end(&mut self.ends, &self.nodes, &self.children, parent);

@@ -45,47 +45,35 @@ impl Tree {
     pub fn len(&self) -> u32
         ensures { result ≡ length self.now.nodes }
     {
-        self.nodes.len() as u32
+        self.nodes.len()
     }
 
     /// How far the deletion of an object has come.
     pub fn life(&self, o: ObjectId) -> Life
         ensures { result ≡ tree.life_of self.now o.0 }
     {
-        match self.nodes.get(o.0 as usize) {
-            Some(node) => node.life,
-            None => Life::Gone,
-        }
+        self.nodes.get(o.0).life
     }
 
     /// What an object is.
     pub fn kind(&self, o: ObjectId) -> Kind
         ensures { result ≡ tree.kind_of self.now o.0 }
     {
-        match self.nodes.get(o.0 as usize) {
-            Some(node) => node.kind,
-            None => Kind::General,
-        }
+        self.nodes.get(o.0).kind
     }
 
     /// The number of the class that an object was made from, 0 for none.
     pub fn class(&self, o: ObjectId) -> u16
         ensures { result ≡ tree.class_of self.now o.0 }
     {
-        match self.nodes.get(o.0 as usize) {
-            Some(node) => node.class,
-            None => 0,
-        }
+        self.nodes.get(o.0).class
     }
 
     /// The parent of an object, the id 0 for none.
     pub fn parent(&self, o: ObjectId) -> ObjectId
         ensures { result.0 ≡ tree.parent_of self.now o.0 }
     {
-        match self.nodes.get(o.0 as usize) {
-            Some(node) => node.parent,
-            None => ObjectId(0),
-        }
+        self.nodes.get(o.0).parent
     }
 
     /// The nearest device at or above an object, or the driver object.
@@ -102,33 +90,25 @@ impl Tree {
     pub fn references(&self, o: ObjectId) -> u32
         ensures { result ≡ tree.references_of self.now o.0 }
     {
-        match self.nodes.get(o.0 as usize) {
-            Some(node) => node.references,
-            None => 0,
-        }
+        self.nodes.get(o.0).references
     }
 
     /// What a context cell of an object holds; the number 0 for a cell that isn't there.
     pub fn cell_of(&self, o: ObjectId, k: u64) -> Value
         ensures { result ≡ tree.cell_of self.now o.0 k }
     {
-        match self.nodes.get(o.0 as usize) {
-            Some(node) => value_at(&node.cells, k),
-            None => Value::Num(0),
-        }
+        value_at(&self.nodes.get(o.0).cells, k)
     }
 
     /// Whether the cleanup or the destroy callback of an object has started.
     pub fn started(&self, o: ObjectId, callback: Callback) -> bool
         ensures { result ≡ tree.started self.now o.0 callback }
     {
-        match self.nodes.get(o.0 as usize) {
-            Some(node) => match callback {
-                Callback::EvtCleanupCallback => node.cleanup_started,
-                Callback::EvtDestroyCallback => node.destroy_started,
-                _ => false,
-            },
-            None => false,
+        let node = self.nodes.get(o.0);
+        match callback {
+            Callback::EvtCleanupCallback => node.cleanup_started,
+            Callback::EvtDestroyCallback => node.destroy_started,
+            _ => false,
         }
     }
 

@@ -3,7 +3,7 @@
 ghost use Rattle.std.specs.Prelude.{◌≡◌, ◌<◌, ◌≤◌, ◌&&◌, ℕ, IfSome, MatchOption, true, filter, find, length, nat_le, option_and_then, option_map, slice_get};
 ghost use Rattle.std.specs.List.{range_with_len};
 ghost use Rattle.wdf_ilist.specs.Family.{after_in, is_on, list_at};
-ghost use Rattle.wdf_model.specs.Tables.{entry, ids_of};
+ghost use Rattle.wdf_model.specs.Tables.{ids_of};
 ghost use Rattle.wdf_model.specs.declared.room.TheConstants.{OBJECTS};
 ghost use Rattle.wdf_model.specs.parts.Tree as tree;
 ghost use Rattle.wdf_sets.specs.Members.{is_in};
@@ -13,50 +13,31 @@ ghost use Rattle.wdf_tree.specs.Turns.{AreNoted, is_counted_turn, is_turn as is_
 use super::Tree;
 use super::deletion::is_id;
 use super::leaving::first_in_both;
-use wdf_base::{Life, ObjectId};
+use wdf_base::ObjectId;
 use wdf_ilist::Links;
 use wdf_maps::object_at;
 use wdf_model::Node;
 use wdf_sets::IdSet;
-
-/// How far the deletion of an object has come.
-fn life_in(nodes: &[Node], o: ObjectId) -> Life
-    ensures { result ≡ (entry tree.gone nodes.now o.0).life }
-{
-    match nodes.get(o.0 as usize) {
-        Some(node) => node.life,
-        None => Life::Gone,
-    }
-}
-
-/// The parent of an object, the id 0 for none.
-fn parent_in(nodes: &[Node], o: ObjectId) -> ObjectId
-    ensures { result.0 ≡ (entry tree.gone nodes.now o.0).parent.0 }
-{
-    match nodes.get(o.0 as usize) {
-        Some(node) => node.parent,
-        None => ObjectId(0),
-    }
-}
+use wdf_slots::Slots;
 
 /// Whether an object's turn has come: its deletion was asked, no child of it waits for cleanup, and, where
 /// the deletion of its parent was asked too, it is the last child that does.
-fn is_turn(nodes: &[Node], waiting: &Links, o: ObjectId) -> bool
+fn is_turn(nodes: &Slots<Node>, waiting: &Links, o: ObjectId) -> bool
     ensures { result ≡ is_turn_by nodes.now waiting.now.lists o.0 }
 {
-    let parent = parent_in(nodes, o);
-    life_in(nodes, o).is_asked()
+    let node = nodes.get(o.0);
+    node.life.is_asked()
         && waiting.is_empty(o.0)
-        && (!life_in(nodes, parent).is_asked() || is_id(waiting.back(parent.0), o.0))
+        && (!nodes.get(node.parent.0).life.is_asked() || is_id(waiting.back(node.parent.0), o.0))
 }
 
 /// Notes whether an object's turn has come.
-pub(super) fn note_turn(turns: &mut IdSet, nodes: &[Node], waiting: &Links, o: ObjectId)
+pub(super) fn note_turn(turns: &mut IdSet, nodes: &Slots<Node>, waiting: &Links, o: ObjectId)
     requires room { length nodes.now ≤ length turns.old }
     ensures noted { AreNoted (is_turn_by nodes.now waiting.now.lists) turns.old turns.new }
     ensures own { o.0 < length nodes.now → is_in o.0 turns.new ≡ is_turn_by nodes.now waiting.now.lists o.0 }
 {
-    if (o.0 as usize) < nodes.len() {
+    if o.0 < nodes.len() {
         turns.put(o.0, is_turn(nodes, waiting, o));
     }
 }
@@ -70,7 +51,7 @@ pub(super) fn item_after(links: &Links, item: Option<u32>) -> Option<u32>
 
 /// Notes it of the children of an object that wait for cleanup.
 #[tactic(auto, using(crate::proofs::Turns::noted_none))]
-fn note_children(turns: &mut IdSet, nodes: &[Node], waiting: &Links, o: ObjectId)
+fn note_children(turns: &mut IdSet, nodes: &Slots<Node>, waiting: &Links, o: ObjectId)
     requires room { length nodes.now ≤ length turns.old }
     ensures noted { AreNoted (is_turn_by nodes.now waiting.now.lists) turns.old turns.new }
     ensures children { (id : ℕ) → id < length nodes.now → is_on id (list_at waiting.now.lists o.0) ≡ true
@@ -86,7 +67,7 @@ fn note_children(turns: &mut IdSet, nodes: &[Node], waiting: &Links, o: ObjectId
 /// Notes it of an object that changed, of a sibling, and of its children that wait for cleanup.
 pub(super) fn note_around(
     turns: &mut IdSet,
-    nodes: &[Node],
+    nodes: &Slots<Node>,
     waiting: &Links,
     o: ObjectId,
     sibling: Option<u32>,
@@ -104,7 +85,12 @@ pub(super) fn note_around(
 }
 
 /// Notes it of an object, if there is one.
-pub(super) fn note_if_any(turns: &mut IdSet, nodes: &[Node], waiting: &Links, found: Option<u32>)
+pub(super) fn note_if_any(
+    turns: &mut IdSet,
+    nodes: &Slots<Node>,
+    waiting: &Links,
+    found: Option<u32>,
+)
     requires room { length nodes.now ≤ length turns.old }
     ensures noted { AreNoted (is_turn_by nodes.now waiting.now.lists) turns.old turns.new }
     ensures own { IfSome found (λ x. x < length nodes.now → is_in x turns.new ≡ is_turn_by nodes.now waiting.now.lists x) }
@@ -117,7 +103,7 @@ pub(super) fn note_if_any(turns: &mut IdSet, nodes: &[Node], waiting: &Links, fo
 /// Notes it of an object that came, by its parent and the child that was the last one there.
 pub(super) fn note_joined(
     turns: &mut IdSet,
-    nodes: &[Node],
+    nodes: &Slots<Node>,
     waiting: &Links,
     parent: ObjectId,
     sibling: Option<u32>,
@@ -135,7 +121,7 @@ pub(super) fn note_joined(
 /// children that do.
 pub(super) fn note_cleaned(
     turns: &mut IdSet,
-    nodes: &[Node],
+    nodes: &Slots<Node>,
     waiting: &Links,
     o: ObjectId,
     parent: ObjectId,

@@ -7,7 +7,7 @@ use Rattle.wdf_model.specs.parts.Cpus.{Cpus, frame_of}
 use Rattle.wdf_cpu.specs.Keys.{object_key, wait_key}
 use Rattle.wdf_cpu.specs.Kept.{cpus_in}
 use Rattle.wdf_cpu.specs.ParkedFor.{lock_key}
-use Rattle.wdf_cpu.proofs.Apart.{as_many}
+use Rattle.wdf_cpu.proofs.Writes.{as_many}
 use Rattle.wdf_cpu.proofs.Keeping.{live_on, live_until, on_fits, sound_change, untils_fit, waits_fit}
 use Rattle.wdf_cpu.proofs.Numbers.{found_is_contained}
 use Rattle.wdf_cpu.proofs.Parking.{parked_fits, parking_change}
@@ -29,25 +29,25 @@ move_until_if-requires-clause-room c = untils_fit c.self.inside c.self.invariant
 pub move_until_if-requires-clause-there : goal.move_until_if-requires-clause-there
 move_until_if-requires-clause-there c =
     live_until c.self.inside c.self.invariant c.args.f.0 c.entry_at-live.result (rw c.deref.ensures.value at c.entry_at-live.ensures)
-    c.running.result.now.frame.until (ap (λ (r : Running). r.frame.until) c.running.ensures.value)
+    c.get.result.now.frame.until (ap (λ (r : Running). r.frame.until) c.get.ensures.value)
 
 pub invariant_of-self : goal.invariant_of-self
 invariant_of-self c =
     let a = c.self.inside in
     let h = c.self.invariant in
     let is = rw c.deref.ensures.value at c.entry_at-live.ensures in
-    let object : option_map (λ (o : ObjectId). o.0) c.object_key-object.result ≡ object_key (frame_of (cpus_in a) c.args.f.0) = c.object_key-object.ensures ∙ ap (λ (r : Running). object_key r.frame) c.running.ensures.value in
-    let awaited : option_map (λ (o : ObjectId). o.0) c.wait_key-awaited.result ≡ wait_key (frame_of (cpus_in a) c.args.f.0) = c.wait_key-awaited.ensures ∙ ap (λ (r : Running). wait_key r.frame) c.running.ensures.value in
-    let lock : option_map (λ (o : ObjectId). o.0) (Some c.lock_key-lock.result) ≡ Some (lock_key (frame_of (cpus_in a) c.args.f.0)) = ap Some (c.lock_key-lock.ensures ∙ ap (λ (r : Running). lock_key r.frame) c.running.ensures.value) in
+    let object : option_map (λ (o : ObjectId). o.0) c.object_key-object.result ≡ object_key (frame_of (cpus_in a) c.args.f.0) = c.object_key-object.ensures ∙ ap (λ (r : Running). object_key r.frame) c.get.ensures.value in
+    let awaited : option_map (λ (o : ObjectId). o.0) c.wait_key-awaited.result ≡ wait_key (frame_of (cpus_in a) c.args.f.0) = c.wait_key-awaited.ensures ∙ ap (λ (r : Running). wait_key r.frame) c.get.ensures.value in
+    let lock : option_map (λ (o : ObjectId). o.0) (Some c.lock_key-lock.result) ≡ Some (lock_key (frame_of (cpus_in a) c.args.f.0)) = ap Some (c.lock_key-lock.ensures ∙ ap (λ (r : Running). lock_key r.frame) c.get.ensures.value) in
     rw c.change.ensures
-    (sound_change a h c.args.f.0 c.entry_at-live.result is c.args.frame c.wait_key-awaited.result c.wait_key.result c.running.result.now.frame.until
+    (sound_change a h c.args.f.0 c.entry_at-live.result is c.args.frame c.wait_key-awaited.result c.wait_key.result c.get.result.now.frame.until
     c.moves_if.new.counts c.moves_if-2.new.counts c.moves_if-3.new.counts c.move_until_if.new.untils
     (λ e. swapped_by a.on c.moves_if.new.counts c.object_key-object.result c.object_key.result _ _ (rw e at c.moves_if.ensures) object c.object_key.ensures (live_on a h c.args.f.0 c.entry_at-live.result is e))
     (λ e. rw e at c.moves_if.ensures)
     awaited c.wait_key.ensures c.moves_if-2.ensures
     (parking_change a h c.args.f.0 c.args.frame c.has_number-parked.result (Some c.lock_key-lock.result) (Some c.lock_key.result) c.moves_if-3.new.counts
     (c.has_number-parked.ensures ∙ found_is_contained c.args.f.0 a.parked.entries) c.moves_if-3.ensures lock (ap Some c.lock_key.ensures))
-    (ap (λ (r : Running). r.frame.until) c.running.ensures.value) c.move_until_if.ensures.moved c.move_until_if.ensures.other)
+    (ap (λ (r : Running). r.frame.until) c.get.ensures.value) c.move_until_if.ensures.moved c.move_until_if.ensures.other)
 
 pub change-requires : goal.change-requires
 change-requires c =

@@ -8,7 +8,7 @@ use Rattle.wdf_cpu.specs.FrameUpdate.{gone}
 use Rattle.wdf_cpu.specs.Keys.{wait_key}
 use Rattle.wdf_cpu.specs.Kept.{cpus_in}
 use Rattle.wdf_cpu.specs.ParkedFor.{lock_key}
-use Rattle.wdf_cpu.proofs.Apart.{as_many}
+use Rattle.wdf_cpu.proofs.Writes.{as_many}
 use Rattle.wdf_cpu.proofs.Keeping.{live_until, sound_change, untils_fit, waits_fit}
 use Rattle.wdf_cpu.proofs.Numbers.{found_is_contained}
 use Rattle.wdf_cpu.proofs.Parking.{parked_fits, parking_change}
@@ -27,23 +27,23 @@ move_until_if-requires-clause-room c = untils_fit c.self.inside c.self.invariant
 pub move_until_if-requires-clause-there : goal.move_until_if-requires-clause-there
 move_until_if-requires-clause-there c =
     live_until c.self.inside c.self.invariant c.args.f.0 c.entry_at-live.result (rw c.deref.ensures.value at c.entry_at-live.ensures)
-    c.running.result.now.frame.until (ap (λ (r : Running). r.frame.until) c.running.ensures.value)
+    c.get.result.now.frame.until (ap (λ (r : Running). r.frame.until) c.get.ensures.value)
 
 pub invariant_of-self : goal.invariant_of-self
 invariant_of-self c =
     let a = c.self.inside in
     let frame = gone c.args.update.now (frame_of (cpus_in a) c.args.f.0) in
-    let awaited : option_map (λ (o : ObjectId). o.0) c.wait_key-awaited.result ≡ wait_key (frame_of (cpus_in a) c.args.f.0) = c.wait_key-awaited.ensures ∙ ap (λ (r : Running). wait_key r.frame) c.running.ensures.value in
-    let lock : option_map (λ (o : ObjectId). o.0) (Some c.lock_key-lock.result) ≡ Some (lock_key (frame_of (cpus_in a) c.args.f.0)) = ap Some (c.lock_key-lock.ensures ∙ ap (λ (r : Running). lock_key r.frame) c.running.ensures.value) in
+    let awaited : option_map (λ (o : ObjectId). o.0) c.wait_key-awaited.result ≡ wait_key (frame_of (cpus_in a) c.args.f.0) = c.wait_key-awaited.ensures ∙ ap (λ (r : Running). wait_key r.frame) c.get.ensures.value in
+    let lock : option_map (λ (o : ObjectId). o.0) (Some c.lock_key-lock.result) ≡ Some (lock_key (frame_of (cpus_in a) c.args.f.0)) = ap Some (c.lock_key-lock.ensures ∙ ap (λ (r : Running). lock_key r.frame) c.get.ensures.value) in
     rw c.go_on.ensures
-    (sound_change a c.self.invariant c.args.f.0 c.entry_at-live.result (rw c.deref.ensures.value at c.entry_at-live.ensures) frame c.wait_key-awaited.result c.awaits.result c.running.result.now.frame.until
+    (sound_change a c.self.invariant c.args.f.0 c.entry_at-live.result (rw c.deref.ensures.value at c.entry_at-live.ensures) frame c.wait_key-awaited.result c.awaits.result c.get.result.now.frame.until
     a.on c.moves_if.new.counts c.moves_if-2.new.counts c.move_until_if.new.untils
     (λ e. stays_counted a.on _ _ (gone_object c.args.update.now (frame_of (cpus_in a) c.args.f.0)))
     (λ e. refl)
     awaited c.awaits.ensures c.moves_if.ensures
     (parking_change a c.self.invariant c.args.f.0 frame c.has_number-parked.result (Some c.lock_key-lock.result) (Some c.lock_in.result) c.moves_if-2.new.counts
     (c.has_number-parked.ensures ∙ found_is_contained c.args.f.0 a.parked.entries) c.moves_if-2.ensures lock (ap Some c.lock_in.ensures))
-    (ap (λ (r : Running). r.frame.until) c.running.ensures.value) c.move_until_if.ensures.moved c.move_until_if.ensures.other)
+    (ap (λ (r : Running). r.frame.until) c.get.ensures.value) c.move_until_if.ensures.moved c.move_until_if.ensures.other)
 
 pub returns-clause-frames : goal.returns-clause-frames
 returns-clause-frames c =

@@ -11,7 +11,7 @@ invariant_of-self c =
     let a = c.self.inside in
     let h = c.self.invariant in
     let peak : c.peak.result.0 ≡ fold max (running (cpus_in a) c.args.f.0).level.0 (held_by (less_one c.args.f.0 c.args.level.0 a.levels) c.args.f.0) =
-    rw (c.lower.ensures, c.running.ensures.value) at c.peak.ensures in
+    rw (c.lower.ensures, c.get.ensures.value) at c.peak.ensures in
     record {
       live_room = h.live_room;
       peaks_room = omega arith;

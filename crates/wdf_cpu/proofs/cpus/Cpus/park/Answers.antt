@@ -38,7 +38,7 @@ invariant_of-self c =
     let a = c.self.inside in
     let h = c.self.invariant in
     let is_top : top (cpus_in a) c.args.cpu.0 ≡ Some c.in-Some.f = cc in
-    let lock : option_map (λ (o : ObjectId). o.0) (Some c.lock_key-lock.result) ≡ Some (lock_key (frame_of (cpus_in a) c.in-Some.f)) = ap Some (c.lock_key-lock.ensures ∙ ap (λ (r : Running). lock_key r.frame) c.running.ensures.value) in
+    let lock : option_map (λ (o : ObjectId). o.0) (Some c.lock_key-lock.result) ≡ Some (lock_key (frame_of (cpus_in a) c.in-Some.f)) = ap Some (c.lock_key-lock.ensures ∙ ap (λ (r : Running). lock_key r.frame) c.get.ensures.value) in
     record {
       live_room = h.live_room;
       peaks_room = h.peaks_room;

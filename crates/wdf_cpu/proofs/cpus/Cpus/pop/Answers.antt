@@ -37,7 +37,7 @@ moves-requires-3-clause-there c =
     let a = c.self.inside in
     let is_top : top (cpus_in a) c.args.cpu.0 ≡ Some c.unwrap.result = cc in
     let one = top_is_on (cpus_in a) a.live.items c.args.cpu.0 c.unwrap.result is_top c.self.invariant.kept.live in
-    rw c.running.ensures.value (until_there (cpus_in a) a.untils c.unwrap.result (frame_of (cpus_in a) c.unwrap.result).until refl one c.self.invariant.untils)
+    rw c.get.ensures.value (until_there (cpus_in a) a.untils c.unwrap.result (frame_of (cpus_in a) c.unwrap.result).until refl one c.self.invariant.untils)
 
 pub forget-requires : goal.forget-requires
 forget-requires c =
@@ -50,8 +50,8 @@ invariant_of-self c =
     let h = c.self.invariant in
     let is_top : top (cpus_in a) c.args.cpu.0 ≡ Some c.unwrap.result = cc in
     let one = top_is_on (cpus_in a) a.live.items c.args.cpu.0 c.unwrap.result is_top h.kept.live in
-    let object : option_map (λ (o : ObjectId). o.0) c.object_key-object.result ≡ object_key (frame_of (cpus_in a) c.unwrap.result) = rw c.running.ensures.value at c.object_key-object.ensures in
-    let awaited : option_map (λ (o : ObjectId). o.0) c.wait_key-awaited.result ≡ wait_key (frame_of (cpus_in a) c.unwrap.result) = rw c.running.ensures.value at c.wait_key-awaited.ensures in
+    let object : option_map (λ (o : ObjectId). o.0) c.object_key-object.result ≡ object_key (frame_of (cpus_in a) c.unwrap.result) = rw c.get.ensures.value at c.object_key-object.ensures in
+    let awaited : option_map (λ (o : ObjectId). o.0) c.wait_key-awaited.result ≡ wait_key (frame_of (cpus_in a) c.unwrap.result) = rw c.get.ensures.value at c.wait_key-awaited.ensures in
     record {
       live_room = omega arith;
       peaks_room = omega arith;
@@ -63,5 +63,5 @@ invariant_of-self c =
           h.kept);
       parked_for = rw (c.remove.ensures, c.pop_from.ensures.rest, c.forget.ensures) (parking_popped (cpus_in a) a.live.items a.parked_for c.args.cpu.0 c.unwrap.result is_top h.kept.live h.parked_for);
       untils = rw (c.remove.ensures, c.pop_from.ensures.rest, c.forget.ensures)
-          (spending_popped (cpus_in a) a.untils c.moves-3.new.self c.args.cpu.0 c.unwrap.result is_top (top_goes_off (cpus_in a) a.live.items c.args.cpu.0 c.unwrap.result is_top h.kept.live) (rw c.running.ensures.value at c.moves-3.ensures) h.untils);
+          (spending_popped (cpus_in a) a.untils c.moves-3.new.self c.args.cpu.0 c.unwrap.result is_top (top_goes_off (cpus_in a) a.live.items c.args.cpu.0 c.unwrap.result is_top h.kept.live) (rw c.get.ensures.value at c.moves-3.ensures) h.untils);
     }

@@ -26,7 +26,7 @@ invariant_of-self c =
     let h = c.self.invariant in
     let is : contains c.args.f.0 a.parked.entries ≡ true = cc in
     let one = parked_once (cpus_in a) a.live.items c.args.f.0 h.kept.live is in
-    let lock : option_map (λ (o : ObjectId). o.0) (Some c.lock_key-lock.result) ≡ Some (lock_key (frame_of (cpus_in a) c.args.f.0)) = ap Some (c.lock_key-lock.ensures ∙ ap (λ (r : Running). lock_key r.frame) c.running.ensures.value) in
+    let lock : option_map (λ (o : ObjectId). o.0) (Some c.lock_key-lock.result) ≡ Some (lock_key (frame_of (cpus_in a) c.args.f.0)) = ap Some (c.lock_key-lock.ensures ∙ ap (λ (r : Running). lock_key r.frame) c.get.ensures.value) in
     record {
       live_room = h.live_room;
       peaks_room = h.peaks_room;

@@ -14,7 +14,7 @@ returns c =
     let parent = parent_of c.args.self.now c.args.o.0 in
     let there = there_if_asked c.args.self.now.nodes c.args.o.0 c.requires.asked in
     let above = there_if_asked c.args.self.now.nodes parent c.requires.parent in
-    let view : c.self.inside.nodes.items ≡ c.args.self.now.nodes = ap (λ (t : Tree). t.nodes) c.self.view_is in
+    let view : c.self.inside.nodes ≡ c.args.self.now.nodes = ap (λ (t : Tree). t.nodes) c.self.view_is in
     let few = ap (λ (ns : List Node). length ns) view in
     let kin : list_at c.self.inside.waiting.lists parent ≡ places (is_kin is_waiting parent) 0 c.args.self.now.nodes
     = c.self.invariant.kept.waiting_kin.kin parent (omega arith) ∙ ap (places (is_kin is_waiting parent) 0) view in

@@ -14,7 +14,7 @@ pub returns-then-is_cleaned : goal.returns-then-is_cleaned
 returns-then-is_cleaned c =
     let V : Tree = c.args.self.now in
     let o = c.args.o.0 in
-    let view : c.self.inside.nodes.items ≡ V.nodes = ap (λ (t : Tree). t.nodes) c.self.view_is in
+    let view : c.self.inside.nodes ≡ V.nodes = ap (λ (t : Tree). t.nodes) c.self.view_is in
     let few = ap (λ (ns : List Node). length ns) view in
     let cleaned : is_cleaned (life_of V o) ≡ true = ap is_cleaned (sym c.life.ensures) ∙ sym c.is_cleaned.ensures ∙ c.if-is_cleaned.true in
     let kids : list_at c.self.inside.children.lists o ≡ places (is_kin is_left o) 0 V.nodes = c.self.invariant.kept.kin.kin o (omega arith) ∙ ap (places (is_kin is_left o) 0) view in
@@ -24,7 +24,7 @@ pub returns-then-not-is_asked : goal.returns-then-not-is_asked
 returns-then-not-is_asked c =
     let V : Tree = c.args.self.now in
     let o = c.args.o.0 in
-    let view : c.self.inside.nodes.items ≡ V.nodes = ap (λ (t : Tree). t.nodes) c.self.view_is in
+    let view : c.self.inside.nodes ≡ V.nodes = ap (λ (t : Tree). t.nodes) c.self.view_is in
     let few = ap (λ (ns : List Node). length ns) view in
     let cleaned : is_cleaned (life_of V o) ≡ false = ap is_cleaned (sym c.life.ensures) ∙ sym c.is_cleaned.ensures ∙ c.if-is_cleaned.false in
     let mine : list_at c.self.inside.waiting.lists o ≡ places (is_kin is_waiting o) 0 V.nodes = c.self.invariant.kept.waiting_kin.kin o (omega arith) ∙ ap (places (is_kin is_waiting o) 0) view in
@@ -35,7 +35,7 @@ pub returns : goal.returns
 returns c =
     let V : Tree = c.args.self.now in
     let o = c.args.o.0 in
-    let view : c.self.inside.nodes.items ≡ V.nodes = ap (λ (t : Tree). t.nodes) c.self.view_is in
+    let view : c.self.inside.nodes ≡ V.nodes = ap (λ (t : Tree). t.nodes) c.self.view_is in
     let few = ap (λ (ns : List Node). length ns) view in
     let cleaned : is_cleaned (life_of V o) ≡ false = ap is_cleaned (sym c.life.ensures) ∙ sym c.is_cleaned.ensures ∙ c.if-is_cleaned.false in
     let mine : list_at c.self.inside.waiting.lists o ≡ places (is_kin is_waiting o) 0 V.nodes = c.self.invariant.kept.waiting_kin.kin o (omega arith) ∙ ap (places (is_kin is_waiting o) 0) view in

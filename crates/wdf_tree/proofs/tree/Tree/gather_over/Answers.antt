@@ -8,5 +8,5 @@ pub push_if-requires : goal.push_if-requires
 push_if-requires c =
     let few = few_gathered c.args.self.now c.args.o c.loop-id.id c.loop-id.ids.items c.loop-id.invariant.gathered in
     let all = c.self.invariant.kept.few in
-    let view : length c.self.inside.nodes.items ≡ length c.args.self.now.nodes = ap (λ (t : Tree). length t.nodes) c.self.view_is in
+    let view : length c.self.inside.nodes ≡ length c.args.self.now.nodes = ap (λ (t : Tree). length t.nodes) c.self.view_is in
     omega (arith, c.loop-id.invariant.capacity, c.requires.capacity)
