@@ -26,3 +26,4 @@ mod single;
 
 pub use list::{Deeds, Lowered};
 pub use parts::Parts;
+pub use readers::{is_held, is_id};

@@ -1,4 +1,4 @@
-ghost use Rattle.std.specs.Prelude.{◌≡◌, ℕ, ◌+◌, ◌<◌, ◌≤◌, IfOk, MatchOption, false, length, nat_lt, replicate, slice_set};
+ghost use Rattle.std.specs.Prelude.{◌≡◌, ℕ, ◌+◌, ◌<◌, IfOk, MatchOption, length, nat_lt, slice_set};
 ghost use Rattle.wdf_model.specs.Tables.{entry};
 ghost use Rattle.wdf_model.specs.parts.Pnp as pnp;
 ghost use Rattle.wdf_pnp.specs.Opening.{sequence_at};
@@ -11,9 +11,6 @@ use std::marker::Model;
 use wdf_base::{Ask, Memory, ObjectId, Plan, Step, Value};
 use wdf_model::Phase;
 use wdf_sets::IdSet;
-
-/// A set has room for fewer ids than this.
-const SET_IDS: usize = 0x8000_0000;
 
 /// Plug and Play and power of all devices: the phase of each, and the steps that it has left.
 #[derive(Drop)]
@@ -48,18 +45,6 @@ fn opening_devices(alloc: Global, plan: &Plan) -> Result<Vec<Sequence>, Memory>
     Ok(devices)
 }
 
-/// The empty set of ids below a bound. More ids than a set has room for are refused as [`Memory`]: the sequences of so many
-/// devices would take hundreds of gigabytes.
-fn empty_set(alloc: Global, bound: usize) -> Result<IdSet, Memory>
-    ensures members { IfOk result (λ set. set ≡ replicate (length set) false) }
-    ensures room { IfOk result (λ set. bound ≤ length set) }
-{
-    if bound >= SET_IDS {
-        return Err(Memory);
-    }
-    Ok(IdSet::make(alloc, bound as u32)?)
-}
-
 /// Notes whether a device has a step left.
 fn note(stepping: &mut IdSet, device: &Sequence, d: ObjectId)
     requires { d.0 < length stepping.old }
@@ -88,7 +73,7 @@ impl Pnp {
         ensures { IfOk result (λ made. made ≡ pnp.opening_pnp plan.now) }
     {
         let devices = opening_devices(alloc, plan)?;
-        let stepping = empty_set(alloc, devices.len())?;
+        let stepping = IdSet::for_table(alloc, devices.len())?;
         Ok(Pnp { devices, stepping })
     }
 

@@ -1,5 +1,4 @@
-ghost use Rattle.std.specs.Prelude.{◌≡◌, ◌+◌, ◌*◌, ◌<◌, IfOk, MatchOption, length, replicate, true, false};
-ghost use Rattle.std.specs.Int.{div_ceil};
+ghost use Rattle.std.specs.Prelude.{◌≡◌, ◌+◌, ◌<◌, IfOk, MatchOption, length, true, false};
 ghost use Rattle.wdf_model.specs.declared.enums.Mode.TheVariants.{Started, Stopped, Drained, Purged};
 ghost use Rattle.wdf_model.specs.Tables.{put};
 ghost use Rattle.wdf_model.specs.parts.Control as control;
@@ -14,9 +13,6 @@ use wdf_base::{Memory, ObjectId, Plan};
 use wdf_maps::{entry_at, put_at};
 use wdf_model::{Mode, QueueControl};
 use wdf_sets::IdSet;
-
-/// For so many ids there is no set.
-const TOO_MANY: usize = 0x8000_0000;
 
 /// The modes of the queues, their notification, and the devices that are closed.
 #[derive(Drop)]
@@ -43,17 +39,6 @@ impl Model for Control {
     ghost invariant = { IsSound };
 }
 
-/// The empty set, with room for as many ids. No set has room for [`TOO_MANY`]: where a table has as many, which no scenario's
-/// plan comes near, it is refused as [`Memory`].
-fn empty_set(alloc: Global, ids: usize) -> Result<IdSet, Memory>
-    ensures { IfOk result (λ set. set ≡ replicate (4096 * div_ceil ids 4096) false) }
-{
-    if ids >= TOO_MANY {
-        return Err(Memory);
-    }
-    IdSet::make(alloc, ids as u32)
-}
-
 /// What is kept of a queue, as it is where these devices are closed.
 fn seen(closed: &[bool], control: QueueControl) -> QueueControl
     ensures { result ≡ seen closed.now control }
@@ -76,7 +61,7 @@ impl Control {
     {
         let kept = opening_controls(alloc, plan)?;
         let closed = Vec::with_capacity(alloc, kept.len())?;
-        let due = empty_set(alloc, kept.len())?;
+        let due = IdSet::for_table(alloc, kept.len())?;
         Ok(Control { kept, closed, due })
     }
 

@@ -20,6 +20,9 @@ const BLOCK_WORDS: u32 = 8;
 /// The bound is rounded up to a multiple of this: one word notes for so many ids which words have a member.
 const ROUND: u32 = 4096;
 
+/// No set has room for so many ids.
+const TOO_MANY: usize = 0x8000_0000;
+
 /// A set of ids below a bound. No call looks at each id: the members of each 512 ids are counted, and it is
 /// noted which words of 64 ids have some.
 ///
@@ -94,6 +97,17 @@ impl IdSet {
             counts: vec![in alloc; 0; (ROUND / BLOCK * rounds) as usize]?,
             len: 0,
         })
+    }
+
+    /// The empty set of the ids of a table with so many entries. No set has room for 2^31 ids: where a table has as many,
+    /// which no scenario's plan comes near, it is refused as [`Memory`].
+    pub fn for_table(alloc: Global, entries: usize) -> Result<IdSet, Memory>
+        ensures { IfOk result (λ set. set ≡ replicate (4096 * div_ceil entries 4096) false) }
+    {
+        if entries >= TOO_MANY {
+            return Err(Memory);
+        }
+        IdSet::make(alloc, entries as u32)
     }
 
     /// The set has no member any more.

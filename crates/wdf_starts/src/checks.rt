@@ -1,18 +1,10 @@
 //! Small tests of places, marks and lives, and of what may be wanting.
-ghost use Rattle.std.specs.Prelude.{◌≡◌, Some, option_map};
+ghost use Rattle.std.specs.Prelude.{◌≡◌, Some};
 ghost use Rattle.wdf_base.specs.Same as same;
-ghost use Rattle.wdf_model.specs.Tables.{same_id};
 ghost use Rattle.wdf_model.specs.rules.Starts as starts;
 
 use wdf_base::{Callback, Handle, ObjectId, Step, same_callback};
 use wdf_same::same_step;
-
-/// Whether there is an id, and it is this one.
-pub(crate) fn is_id(found: Option<ObjectId>, id: ObjectId) -> bool
-    ensures { result ≡ same_id (option_map (λ o. o.0) found) id.0 }
-{
-    found == Some(id)
-}
 
 /// Whether there is a step, and it is this one.
 pub(crate) fn is_step(found: Option<Step>, step: Step) -> bool

@@ -2,7 +2,7 @@
 ghost use Rattle.std.specs.Prelude.{◌≡◌};
 ghost use Rattle.wdf_model.specs.rules.Starts as starts;
 
-use crate::checks::{is_callback, is_id, is_step};
+use crate::checks::{is_callback, is_step};
 use crate::lines::isr_due;
 use crate::objects::{clean_ready, destroy_ready};
 use crate::sequences::{step_of, step_ready};

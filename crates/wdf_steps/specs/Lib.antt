@@ -1,3 +1,2 @@
 pub mod Clock
 pub mod Moves
-pub mod Seen

@@ -1,9 +1,10 @@
 //! What a top frame sees of the state: what the table of faults reads.
-ghost use Rattle.wdf_steps.specs.Seen.{seen_by};
+ghost use Rattle.wdf_model.specs.rules.Steps.{seen_by};
 
 use wdf_base::{Cpu, Frame, FrameId, Irql, Kind, Life, LockRef, Mark, ObjectId, Place};
 use wdf_cpu::Cpus;
 use wdf_lock::{Locks, scope_of_object};
+use wdf_parts::is_held;
 use wdf_plan_index::IndexedPlan;
 use wdf_power::Power;
 use wdf_request::Requests;
@@ -74,11 +75,7 @@ impl View for TopFrame<'_> {
     }
 
     fn held(&self, r: ObjectId) -> bool {
-        match self.requests.place(r) {
-            Place::Owned => true,
-            Place::Sent(_) => !self.targets.is_forgotten(r),
-            _ => false,
-        }
+        is_held(self.requests, self.targets, r)
     }
 
     fn acknowledged(&self, r: ObjectId) -> bool {

@@ -1,5 +1,4 @@
-ghost use Rattle.std.specs.Prelude.{◌≡◌, ℕ, ◌+◌, ◌*◌, ◌<◌, IfOk, MatchOption, None, Some, false, if◌then◌else◌, is_some, length, replicate, slice_get, slice_set};
-ghost use Rattle.std.specs.Int.{div_ceil};
+ghost use Rattle.std.specs.Prelude.{◌≡◌, ℕ, ◌+◌, ◌<◌, IfOk, MatchOption, None, Some, false, if◌then◌else◌, is_some, length, slice_get, slice_set};
 ghost use Rattle.wdf_model.specs.Tables.{entry};
 ghost use Rattle.wdf_model.specs.parts.Targets as targets;
 ghost use Rattle.wdf_sets.specs.Nexts.{IsNext, NoneFrom};
@@ -13,9 +12,6 @@ use wdf_declared::target_of;
 use wdf_maps::{entry_at, put_at};
 use wdf_model::{OBJECTS, Sending};
 use wdf_sets::IdSet;
-
-/// For so many ids there is no set.
-const TOO_MANY: usize = 0x8000_0000;
 
 /// The I/O targets: which are stopped, and what is sent to each. The target that has a request is kept
 /// too, and which targets have one, so that no call but [`Targets::make`] and [`Targets::begin_again`] looks at more than
@@ -70,17 +66,6 @@ fn begin_all(all: &mut Vec<Target>, plan: &Plan)
     }
 }
 
-/// The empty set, with room for as many ids. No set has room for [`TOO_MANY`]: where a table has as many, which no scenario's
-/// plan comes near, it is refused as [`Memory`].
-fn empty_set(alloc: Global, ids: usize) -> Result<IdSet, Memory>
-    ensures { IfOk result (λ set. set ≡ replicate (4096 * div_ceil ids 4096) false) }
-{
-    if ids >= TOO_MANY {
-        return Err(Memory);
-    }
-    IdSet::make(alloc, ids as u32)
-}
-
 /// Notes whether a target has a request.
 fn note(laden: &mut IdSet, t: ObjectId, target: &Target)
     requires { t.0 < length laden.old }
@@ -96,7 +81,7 @@ impl Targets {
     {
         let targets = open(alloc, plan)?;
         let holders = Vec::with_capacity(alloc, OBJECTS as usize)?;
-        let laden = empty_set(alloc, targets.len())?;
+        let laden = IdSet::for_table(alloc, targets.len())?;
         Ok(Targets {
             targets,
             holders,

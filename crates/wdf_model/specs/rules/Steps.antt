@@ -28,14 +28,15 @@ use Rattle.wdf_base.specs.declared.script.Statement.{Statement}
 use Rattle.wdf_base.specs.Same.{same_event, same_option, same_status}
 use Rattle.wdf_model.specs.Tables.{contains, same_id}
 use Rattle.wdf_model.specs.Plans.{device_of_register, interrupt_level}
-use Rattle.wdf_model.specs.parts.Tree.{kind_of, life_of, references_of}
-use Rattle.wdf_model.specs.parts.Cpus.{frame_of, irql, is_empty_cpu, top}
-use Rattle.wdf_model.specs.parts.Locks.{held_by_call, holder, holds_by_call, scope_of_object}
-use Rattle.wdf_model.specs.parts.Requests.{mark_of, origin_of, place_of}
-use Rattle.wdf_model.specs.parts.Power.{acknowledged, has_hardware}
+use Rattle.wdf_model.specs.parts.Tree.{Tree, declared_as, kind_of, life_of, references_of}
+use Rattle.wdf_model.specs.parts.Cpus.{Cpus, frame_of, irql, is_empty_cpu, top}
+use Rattle.wdf_model.specs.parts.Locks.{Locks, held_by_call, holder, holds_by_call, scope_of_object}
+use Rattle.wdf_model.specs.parts.Requests.{Requests, mark_of, origin_of, place_of}
+use Rattle.wdf_model.specs.parts.Power.{Power, acknowledged, has_hardware}
+use Rattle.wdf_model.specs.parts.Targets.{Targets, is_forgotten}
 use Rattle.wdf_model.specs.Ids.{cpu_of, frame_id}
 use Rattle.wdf_model.specs.rules.Script.{intent_of, line_of, statement_at}
-use Rattle.wdf_model.specs.State.{State, declared_in, is_proper, is_with_driver}
+use Rattle.wdf_model.specs.State.{State, held_at, is_proper}
 use Rattle.wdf_model.specs.declared.deed.Deed.{Deed}
 use Rattle.wdf_model.specs.declared.deed.Deed.TheVariants.{GoOn, ParkFrame, UnparkFrame, CompleteRequest, CleanUp, EndLife, PassTick}
 use Rattle.wdf_model.specs.rules.Deeds.{do_deeds, counted}
@@ -46,27 +47,31 @@ use Rattle.wdf_model.specs.rules.Posts.{may_post, post_deeds}
 
 -- ---- a frame's own event
 
--- what frame f on processor cpu sees of the state; its faults are judged by this alone
-abbrev pub view_of : {A : Type 0} → Plan → State A → ℕ → ℕ → View
-view_of plan S cpu f = record {
-  frame = frame_of S.cpus f;
+-- what frame f on processor cpu sees, by the parts of the state that it reads (own)
+abbrev pub seen_by : Plan → Tree → Requests → Targets → Power → Cpus → Locks → ℕ → ℕ → View
+seen_by plan T R targets P C L cpu f = record {
+  frame = frame_of C f;
   number = f;
-  irql = irql S.cpus cpu;
-  life = life_of S.tree;
-  kind = kind_of S.tree;
-  references = references_of S.tree;
+  irql = irql C cpu;
+  life = life_of T;
+  kind = kind_of T;
+  references = references_of T;
   level_of = interrupt_level plan;
-  scope = λ o. scope_of_object plan o (declared_in plan S o);
-  place = place_of S.requests;
-  origin = origin_of S.requests;
-  mark = mark_of S.requests;
-  held = is_with_driver S;
-  acknowledged = acknowledged S.power;
-  holder = holder S.locks;
-  by_call = holds_by_call S.locks f;
-  held_by_call = held_by_call S.locks f;
-  hardware = λ k. has_hardware S.power (device_of_register plan k);
+  scope = λ o. scope_of_object plan o (declared_as plan T o);
+  place = place_of R;
+  origin = origin_of R;
+  mark = mark_of R;
+  held = λ r. held_at (is_forgotten targets r) (place_of R r);
+  acknowledged = acknowledged P;
+  holder = holder L;
+  by_call = holds_by_call L f;
+  held_by_call = held_by_call L f;
+  hardware = λ k. has_hardware P (device_of_register plan k);
 }
+
+-- what it sees of the state; its faults are judged by this alone (own)
+abbrev pub view_of : {A : Type 0} → Plan → State A → ℕ → ℕ → View
+view_of plan S cpu f = seen_by plan S.tree S.requests S.targets S.power S.cpus S.locks cpu f
 
 -- call c without a fault, with outcome o: it is answered at once, or waits where its condition isn't met once its
 -- first part is done (KMDF)
