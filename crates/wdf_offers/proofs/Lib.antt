@@ -14,5 +14,4 @@ pub mod Leavers
 mod ComingBack
 pub mod Herds
 pub mod HerdWalk
-mod Stepping
 mod AtRest
