@@ -16,3 +16,4 @@ pub mod Herds
 pub mod HerdWalk
 mod Stepping
 mod AtRest
+mod NoneAhead
