@@ -39,6 +39,10 @@ use Rattle.wdf_offers.proofs.Places.{nothing_there, past}
 pub none_yet : (test : ℕ → Bool) (from : ℕ) → NoneFrom test from from
 none_yet test from id after below = absurd (omega arith)
 
+-- where the callback is due on no queue for which none is counted
+pub by_counts : {A : Type 0} (S : State A) (h : Herd) (from to : ℕ) → goes_by_counts h S ≡ true → NoneFrom (has_counted h S) from to → NoneFrom (may_be_due_on S (Some h)) from to
+by_counts S h from to told none id after below = rw (none id after below, told) refl
+
 no_item : {T : Type 0} (xs : List T) → length xs ≡ 0 → xs ≡ []
 no_item [] h = refl
 no_item (x ∷ xs) h = absurd (omega arith)

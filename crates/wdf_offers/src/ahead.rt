@@ -71,9 +71,19 @@ fn next_target<A: Agent>(parts: &Parts<A>, from: u32) -> u32
     }
 }
 
-/// An id up to which no callback of a rank is due on an object, from one on: nothing may come for the objects from `from` on
-/// below it, on whatever processor. It is the first one for which a request is counted, and `from` itself where the callbacks
-/// of the rank aren't counted by object. No object is looked at.
+/// The same by a rank, of any object.
+fn next_by_rank<A: Agent>(parts: &Parts<A>, rank: Rank, from: u32) -> u32
+    ensures { NoneFrom (ahead.may_be_due parts.now rank) from result }
+{
+    match rank {
+        Rank::Completion => next_target(parts, from),
+        _ => next_of_herd(parts, herd_of(rank), from),
+    }
+}
+
+/// An id such that nothing may come of a rank for the objects from one on below it, on whatever processor. It is the first
+/// object for which a request is counted, and `from` itself where the callbacks of the rank aren't counted by object. No
+/// object is looked at.
 pub fn next_object<A: Agent>(
     plan: &IndexedPlan,
     parts: &Parts<A>,
@@ -81,12 +91,9 @@ pub fn next_object<A: Agent>(
     from: u32,
 ) -> u32
     requires settled { IsSettled plan.now parts.now }
-    ensures next { NoneFrom (ahead.may_be_due parts.now rank) from result }
+    ensures due { NoneFrom (ahead.may_be_due parts.now rank) from result }
     ensures nothing { ahead.NothingFor plan.now A.meaning parts.now rank from result }
 {
     let _ = plan;
-    match rank {
-        Rank::Completion => next_target(parts, from),
-        _ => next_of_herd(parts, herd_of(rank), from),
-    }
+    next_by_rank(parts, rank, from)
 }
