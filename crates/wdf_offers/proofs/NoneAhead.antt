@@ -1,14 +1,13 @@
 -- Where what is counted says that the callbacks of a rank are due on no object of some, nothing may come for these.
-use Rattle.std.proofs.Common.{if◌then◌else◌, Bool, true, false, not, ◌==◌, ◌&&◌, ◌||◌, nat_lt, ℕ, ◌≡◌, ◌≤◌, List, [], ◌∷◌, find, length, Option, Some, None, refl, sym, ap, ◌∙◌, arith}
+use Rattle.std.proofs.Common.{if◌then◌else◌, Bool, true, false, not, ◌==◌, ◌&&◌, ℕ, ◌≡◌, List, [], ◌∷◌, length, Option, Some, None, refl, ap, ◌∙◌, arith}
 use Rattle.std.specs.Prelude.{nat_le}
 use Rattle.std.specs.List.{list_any}
 use Rattle.std.proofs.lemmas.Bool.{eqb-true, ltb-false, or_parts}
 use Rattle.wdf_base.specs.Meaning.{Meaning}
-use Rattle.wdf_base.specs.declared.ids.ObjectId.{ObjectId}
 use Rattle.wdf_base.specs.declared.plan.Plan.{Plan}
 use Rattle.wdf_base.specs.declared.rank.Rank.{Rank}
 use Rattle.wdf_base.specs.declared.rank.Rank.TheVariants as rank
-use Rattle.wdf_model.proofs.Tests.{both_left, left_fails, not_false, not_true}
+use Rattle.wdf_model.proofs.Tests.{both_left, not_false, not_true}
 use Rattle.wdf_model.specs.Plans.{is_managed}
 use Rattle.wdf_model.specs.State.{State, is_held_from, is_with_driver}
 use Rattle.wdf_model.specs.Tables.{same_id}
@@ -17,7 +16,7 @@ use Rattle.wdf_model.specs.declared.enums.Group.TheVariants as group
 use Rattle.wdf_model.specs.parts.Power.{holding_of, resume_due}
 use Rattle.wdf_model.specs.parts.Requests.{origin_of}
 use Rattle.wdf_model.specs.parts.Targets.{the_target}
-use Rattle.law_machine_base.specs.Agreement.{holding_queue, managed_origin}
+use Rattle.law_machine_base.specs.Agreement.{managed_origin}
 use Rattle.wdf_maps.specs.Counts.{is_at}
 use Rattle.wdf_power.specs.ForQueues.{resuming_from, resuming_queue}
 use Rattle.wdf_request.specs.Keys.{is_due_sent}
@@ -26,7 +25,7 @@ use Rattle.wdf_target.specs.Laden.{is_laden}
 use Rattle.wdf_offers.specs.declared.for_requests.Herd.{Herd}
 use Rattle.wdf_offers.specs.declared.for_requests.Herd.TheVariants as herd
 use Rattle.wdf_offers.specs.Ahead.{NothingFor, goes_by_counts, has_counted, may_be_due, may_be_due_on}
-use Rattle.wdf_offers.specs.ForRequests.{IsExact, counted, herd_group, herd_of, is_counted, may_begin, rank_of}
+use Rattle.wdf_offers.specs.ForRequests.{IsExact, counted, herd_group, is_counted, may_begin}
 use Rattle.wdf_offers.specs.Leaving.{IsSettled}
 use Rattle.wdf_offers.specs.Search.{offered_from}
 use Rattle.wdf_offers.proofs.AtRest.{none_among}

@@ -84,12 +84,7 @@ fn next_by_rank<A: Agent>(parts: &Parts<A>, rank: Rank, from: u32) -> u32
 /// An id such that nothing may come of a rank for the objects from one on below it, on whatever processor. It is the first
 /// object for which a request is counted, and `from` itself where the callbacks of the rank aren't counted by object. No
 /// object is looked at.
-pub fn next_object<A: Agent>(
-    plan: &IndexedPlan,
-    parts: &Parts<A>,
-    rank: Rank,
-    from: u32,
-) -> u32
+pub fn next_object<A: Agent>(plan: &IndexedPlan, parts: &Parts<A>, rank: Rank, from: u32) -> u32
     requires settled { IsSettled plan.now parts.now }
     ensures due { NoneFrom (ahead.may_be_due parts.now rank) from result }
     ensures nothing { ahead.NothingFor plan.now A.meaning parts.now rank from result }

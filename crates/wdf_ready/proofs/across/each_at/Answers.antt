@@ -38,5 +38,5 @@ returns g c =
     let few = c.walk.invariant.few in
     let all = ap length (each_are c.args.plan.now g.A.Agent.meaning c.args.parts.now c.args.cpu c.args.rank c.args.objects.now) in
     let many = all_passed (flat_map one c.args.objects.now) (c.args.k - c.walk.left)
-        (same_rest _ _ _ (c.args.k - c.walk.left) (no_pieces c.args.plan.now g.A.Agent.meaning c.args.parts.now c.args.cpu c.args.rank c.args.objects.now c.walk.at c.in_default.ensures) c.walk.invariant.passed) in
+    (same_rest _ _ _ (c.args.k - c.walk.left) (no_pieces c.args.plan.now g.A.Agent.meaning c.args.parts.now c.args.cpu c.args.rank c.args.objects.now c.walk.at c.in_default.ensures) c.walk.invariant.passed) in
     omega (arith, all, many, few)
