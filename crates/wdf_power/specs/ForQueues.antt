@@ -1,5 +1,5 @@
 -- The requests that are held and weren't asked to stop, and those for which a resume is due, by the queue that they are held from.
-use Rattle.std.specs.Prelude.{if◌then◌else◌, ℕ, ◌≡◌, ◌≤◌, Bool, ◌&&◌, not, List, filter, length, Option, Some, None, is_some}
+use Rattle.std.specs.Prelude.{if◌then◌else◌, ℕ, ◌≡◌, ◌≤◌, nat_lt, Bool, ◌&&◌, not, List, filter, length, Option, Some, None, is_some}
 use Rattle.wdf_base.specs.declared.ids.ObjectId.{ObjectId}
 use Rattle.wdf_model.specs.declared.entries.Holding.{Holding}
 use Rattle.wdf_model.specs.declared.room.TheConstants.{OBJECTS}
@@ -28,6 +28,10 @@ unasked P = filter (is_unasked P) (ids_of P.holdings)
 abbrev pub unasked_from : Power → ℕ → List ℕ
 unasked_from P q = filter (λ r. is_at q (unasked_queue (holding_of P r))) (ids_of P.holdings)
 
+-- some request is held from queue q and wasn't asked to stop
+abbrev pub has_unasked : Power → ℕ → Bool
+has_unasked P q = nat_lt 0 (length (unasked_from P q))
+
 -- the ids of the requests for which a resume is due, rising
 abbrev pub resuming : Power → List ℕ
 resuming P = filter (λ r. resume_due P r) (ids_of P.holdings)
@@ -35,6 +39,10 @@ resuming P = filter (λ r. resume_due P r) (ids_of P.holdings)
 -- of those that are held from queue q
 abbrev pub resuming_from : Power → ℕ → List ℕ
 resuming_from P q = filter (λ r. is_at q (resuming_queue (holding_of P r))) (ids_of P.holdings)
+
+-- a resume is due for some request that is held from queue q
+abbrev pub has_resuming : Power → ℕ → Bool
+has_resuming P q = nat_lt 0 (length (resuming_from P q))
 
 -- The set has a bit for each object, and its members are the requests whose holding passes a test.
 pub record IsSetOf (test : Holding → Bool) (all : List Holding) (bits : List Bool) : Type 0 where

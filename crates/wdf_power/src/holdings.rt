@@ -1,10 +1,12 @@
-ghost use Rattle.std.specs.Prelude.{◌≡◌, ◌+◌, ◌<◌, ◌≤◌, IfOk, IfSome, Some, count_by, find, if◌then◌else◌, is_some, length, nat_le, slice_get};
+ghost use Rattle.std.specs.Prelude.{◌≡◌, ◌+◌, ◌<◌, ◌≤◌, IfOk, IfSome, MatchOption, Some, count_by, find, if◌then◌else◌, is_some, length, nat_le, slice_get};
 ghost use Rattle.std.specs.List.{list_any};
 ghost use Rattle.wdf_maps.specs.Counts.{is_at};
 ghost use Rattle.wdf_model.specs.Tables.{least, lesser, put};
+ghost use Rattle.wdf_model.specs.declared.room.TheConstants.{OBJECTS};
 ghost use Rattle.wdf_model.specs.parts.Power as power;
+ghost use Rattle.wdf_sets.specs.Nexts.{IsNext, NoneFrom};
 ghost use Rattle.wdf_power.specs.Held.{AreListed};
-ghost use Rattle.wdf_power.specs.ForQueues.{resuming, resuming_from, resuming_queue, unasked, unasked_from, unasked_queue};
+ghost use Rattle.wdf_power.specs.ForQueues.{has_resuming, has_unasked, resuming, resuming_from, resuming_queue, unasked, unasked_from, unasked_queue};
 ghost use Rattle.wdf_power.specs.Power.{device_list, due_at, held_list, opening_holdings, resume_of, unsettled_at};
 
 use crate::opening::{opening_queues, write_queues};
@@ -15,6 +17,7 @@ use wdf_ilist::Links;
 use wdf_maps::{Counts, entry_at, lesser_if, put_at};
 use wdf_model::{Holding, OBJECTS, QueuePower};
 use wdf_sets::IdSet;
+use wdf_tally::Tally;
 
 /// Of a queue that there isn't.
 const NO_QUEUE_POWER: QueuePower = QueuePower {
@@ -46,11 +49,11 @@ pub(crate) struct Holdings {
     /// For how many requests a resume is due in all, counted at the id 0.
     resumes: Counts,
     /// How many requests are held from each queue and weren't asked to stop.
-    unasked: Counts,
+    unasked: Tally,
     /// Those that are held and weren't asked to stop.
     unasked_ids: IdSet,
     /// For how many requests that are held from each queue a resume is due.
-    resuming: Counts,
+    resuming: Tally,
     /// Those for which a resume is due.
     resuming_ids: IdSet,
 }
@@ -204,8 +207,8 @@ impl Holdings {
             unsettled: Counts::make(alloc)?,
             due: Counts::make(alloc)?,
             resumes: Counts::make(alloc)?,
-            unasked: Counts::make(alloc)?,
-            resuming: Counts::make(alloc)?,
+            unasked: Tally::make(alloc)?,
+            resuming: Tally::make(alloc)?,
             unasked_ids: IdSet::make(alloc, OBJECTS)?,
             resuming_ids: IdSet::make(alloc, OBJECTS)?,
         })
@@ -307,6 +310,13 @@ impl Holdings {
         }
     }
 
+    /// The first queue from an id on from which some request is held that wasn't asked to stop.
+    pub(crate) fn next_unasked_from(&self, from: ObjectId) -> Option<ObjectId>
+        ensures { MatchOption result (NoneFrom (has_unasked self.now) from.0 OBJECTS) (λ q. IsNext (has_unasked self.now) from.0 OBJECTS q.0) }
+    {
+        self.unasked.next(from)
+    }
+
     /// How many requests are held from whatever queue and weren't asked to stop.
     pub(crate) fn unasked_len(&self) -> u32
         ensures { result ≡ length (unasked self.now) }
@@ -337,6 +347,13 @@ impl Holdings {
         } else {
             count_resuming(&self.all, q) as u32
         }
+    }
+
+    /// The first queue from an id on from which some request is held for which a resume is due.
+    pub(crate) fn next_resuming_from(&self, from: ObjectId) -> Option<ObjectId>
+        ensures { MatchOption result (NoneFrom (has_resuming self.now) from.0 OBJECTS) (λ q. IsNext (has_resuming self.now) from.0 OBJECTS q.0) }
+    {
+        self.resuming.next(from)
     }
 
     /// For how many requests a resume is due.

@@ -1,9 +1,11 @@
-ghost use Rattle.std.specs.Prelude.{◌≡◌, ◌+◌, ◌<◌, IfOk, IfSome, find, length, nat_le, option_map, slice_get};
+ghost use Rattle.std.specs.Prelude.{◌≡◌, ◌+◌, ◌<◌, IfOk, IfSome, MatchOption, find, length, nat_le, option_map, slice_get};
 ghost use Rattle.std.specs.List.{list_any};
 ghost use Rattle.wdf_model.specs.Tables.{least, put};
+ghost use Rattle.wdf_model.specs.declared.room.TheConstants.{OBJECTS};
 ghost use Rattle.wdf_model.specs.parts.Power as power;
+ghost use Rattle.wdf_sets.specs.Nexts.{IsNext, NoneFrom};
 ghost use Rattle.wdf_power.specs.Power.{IsMoved};
-ghost use Rattle.wdf_power.specs.ForQueues.{resuming, resuming_from, unasked, unasked_from};
+ghost use Rattle.wdf_power.specs.ForQueues.{has_resuming, has_unasked, resuming, resuming_from, unasked, unasked_from};
 
 use crate::holdings::{Holdings, NO_HOLDING, is_held};
 use crate::opening::{opening_devices, write_devices};
@@ -235,6 +237,14 @@ impl Power {
         self.holdings.unasked_from_len(q)
     }
 
+    /// The first queue from an id on from which some request is held that wasn't asked to stop. It doesn't look at the
+    /// others.
+    pub fn next_unasked_from(&self, from: ObjectId) -> Option<ObjectId>
+        ensures { MatchOption result (NoneFrom (has_unasked self.now) from.0 OBJECTS) (λ q. IsNext (has_unasked self.now) from.0 OBJECTS q.0) }
+    {
+        self.holdings.next_unasked_from(from)
+    }
+
     /// How many requests are held from whatever queue and weren't asked to stop.
     pub fn unasked_len(&self) -> u32
         ensures { result ≡ length (unasked self.now) }
@@ -261,6 +271,14 @@ impl Power {
         ensures { result ≡ length (resuming_from self.now q.0) }
     {
         self.holdings.resuming_from_len(q)
+    }
+
+    /// The first queue from an id on from which some request is held for which a resume is due. It doesn't look at the
+    /// others.
+    pub fn next_resuming_from(&self, from: ObjectId) -> Option<ObjectId>
+        ensures { MatchOption result (NoneFrom (has_resuming self.now) from.0 OBJECTS) (λ q. IsNext (has_resuming self.now) from.0 OBJECTS q.0) }
+    {
+        self.holdings.next_resuming_from(from)
     }
 
     /// For how many requests a resume is due, of whatever queue.

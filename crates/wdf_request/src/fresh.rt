@@ -7,15 +7,16 @@ use wdf_base::Memory;
 use wdf_maps::Counts;
 use wdf_model::OBJECTS;
 use wdf_sets::{IdSet, four_sets};
+use wdf_tally::Tally;
 
 /// Counts of no request. They are made apart from the sets: a refusal lets go what was made before it, and each such way is
 /// proved.
 #[derive(Drop)]
 pub(crate) struct FreshCounts {
-    pub(crate) returning: Counts,
+    pub(crate) returning: Tally,
     pub(crate) sent: Counts,
     pub(crate) unfinished: Counts,
-    pub(crate) due_held: Counts,
+    pub(crate) due_held: Tally,
 }
 
 impl FreshCounts {
@@ -24,10 +25,10 @@ impl FreshCounts {
         ensures { IfOk result HaveNone }
     {
         Ok(FreshCounts {
-            returning: Counts::make(alloc)?,
+            returning: Tally::make(alloc)?,
             sent: Counts::make(alloc)?,
             unfinished: Counts::make(alloc)?,
-            due_held: Counts::make(alloc)?,
+            due_held: Tally::make(alloc)?,
         })
     }
 }

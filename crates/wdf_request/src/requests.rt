@@ -29,6 +29,7 @@ use wdf_base::{Mark, Memory, ObjectId, Place, Plan, RequestInfo, Status};
 use wdf_maps::{Counts, entry_at, object_at, put_at};
 use wdf_model::{EVENTS, OBJECTS, Request};
 use wdf_sets::IdSet;
+use wdf_tally::Tally;
 
 /// Where each request is, whether it is cancelable, and what is kept of it. What is no request, or
 /// is gone, is Done. Each call but [`Requests::make`] takes no memory.
@@ -39,7 +40,7 @@ pub struct Requests {
     /// How many requests arrived.
     arrived: u32,
     /// How many are Returning to each queue.
-    returning: Counts,
+    returning: Tally,
     /// How many are Sent to each target.
     sent: Counts,
     /// How many arrived at each device and aren't done.
@@ -55,7 +56,7 @@ pub struct Requests {
     /// Those that are Returning to some queue.
     returns: IdSet,
     /// For how many that the driver has from each queue EvtRequestCancel is due.
-    due_held: Counts,
+    due_held: Tally,
     /// For how many that are Sent EvtRequestCancel is due.
     due_sent: u32,
     /// Which each arrival made.

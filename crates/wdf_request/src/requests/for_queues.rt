@@ -1,10 +1,12 @@
 //! The requests for which a callback of a queue is due: how many, and which.
 
-ghost use Rattle.std.specs.Prelude.{◌≡◌, ◌≤◌, count_by, find, length, nat_le, option_map, slice_get};
+ghost use Rattle.std.specs.Prelude.{◌≡◌, ◌≤◌, MatchOption, count_by, find, length, nat_le, option_map, slice_get};
 ghost use Rattle.std.specs.List.{list_any};
 ghost use Rattle.wdf_maps.specs.Counts.{is_at};
+ghost use Rattle.wdf_model.specs.declared.room.TheConstants.{OBJECTS};
+ghost use Rattle.wdf_sets.specs.Nexts.{IsNext, NoneFrom};
 ghost use Rattle.wdf_request.specs.Closing.{due_requests};
-ghost use Rattle.wdf_request.specs.ForQueues.{due_from, returning_requests, returning_to};
+ghost use Rattle.wdf_request.specs.ForQueues.{due_from, has_due, has_returning, returning_requests, returning_to};
 ghost use Rattle.wdf_request.specs.Keys as keys;
 
 use super::{Requests, is_for};
@@ -66,6 +68,13 @@ impl Requests {
         }
     }
 
+    /// The first queue from an id on to which some request is Returning. It doesn't look at the others.
+    pub fn next_returning_to(&self, from: ObjectId) -> Option<ObjectId>
+        ensures { MatchOption result (NoneFrom (has_returning self.now) from.0 OBJECTS) (λ q. IsNext (has_returning self.now) from.0 OBJECTS q.0) }
+    {
+        self.returning.next(from)
+    }
+
     /// For how many requests EvtRequestCancel is due, of whatever queue.
     pub fn due_len(&self) -> u32
         ensures { result ≡ length (due_requests self.now) }
@@ -90,6 +99,14 @@ impl Requests {
         } else {
             count_due(&self.all, q) as u32
         }
+    }
+
+    /// The first queue from an id on from which the driver has some request for which EvtRequestCancel is due. It doesn't
+    /// look at the others.
+    pub fn next_due_from(&self, from: ObjectId) -> Option<ObjectId>
+        ensures { MatchOption result (NoneFrom (has_due self.now) from.0 OBJECTS) (λ q. IsNext (has_due self.now) from.0 OBJECTS q.0) }
+    {
+        self.due_held.next(from)
     }
 
     /// Whether EvtRequestCancel is due for some request that is Sent.
