@@ -1,5 +1,5 @@
 pub mod InBlocks
-pub mod Skipped
+mod Skipped
 pub mod Grouping
 pub mod EmptyCpus
 pub mod AnyOf
