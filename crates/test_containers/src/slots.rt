@@ -24,7 +24,7 @@ enum Act {
     Holds(&'static [u32]),
 }
 
-static ACTS: [Act; 20] = [
+static ACTS: [Act; 22] = [
     Act::Holds(&[]),
     Act::Get(0, 0),
     Act::Push(10),
@@ -45,6 +45,9 @@ static ACTS: [Act; 20] = [
     Act::Remove(0),
     Act::Get(4, 24),
     Act::Get(5, 0),
+    // One that never came is removed: there are blank ones on the way to it.
+    Act::Remove(6),
+    Act::Holds(&[0, 21, 12, 0, 24, 0, 0]),
     Act::Clear,
     Act::Holds(&[]),
 ];

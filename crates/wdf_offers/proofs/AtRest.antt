@@ -1,25 +1,26 @@
 -- Where the callbacks of a rank rest on a processor, nothing may come of them.
-use Rattle.std.proofs.Common.{Bool, true, false, not, ◌==◌, ◌&&◌, ◌||◌, nat_lt, ℕ, ◌≡◌, ◌^◌, List, [], ◌∷◌, find, length, Some, None, refl, ap, ◌∙◌, arith}
+use Rattle.std.proofs.Common.{Bool, true, false, not, ◌==◌, ◌&&◌, ◌||◌, ℕ, ◌≡◌, List, [], ◌∷◌, find, length, Some, None, refl, ap, ◌∙◌, arith}
 use Rattle.std.specs.Prelude.{nat_le}
-use Rattle.std.proofs.lemmas.Bool.{eqb-true, ltb-false}
+use Rattle.std.proofs.lemmas.Bool.{eqb-true}
 use Rattle.wdf_base.specs.Meaning.{Meaning}
 use Rattle.wdf_base.specs.Same.{same_option, same_step}
 use Rattle.wdf_base.specs.declared.event.Stage.TheVariants as stage
-use Rattle.wdf_base.specs.declared.event.Step.{Step}
 use Rattle.wdf_base.specs.declared.event.Step.TheVariants as step
 use Rattle.wdf_base.specs.declared.plan.Plan.{Plan}
 use Rattle.wdf_base.specs.declared.rank.Rank.{Rank}
 use Rattle.wdf_base.specs.declared.rank.Rank.TheVariants as rank
-use Rattle.wdf_model.proofs.Tests.{both_right, left_fails, not_true, right_fails}
+use Rattle.wdf_model.proofs.Tests.{left_fails, right_fails}
 use Rattle.wdf_model.specs.Plans.{is_managed}
 use Rattle.wdf_model.specs.State.{State, is_held_from}
 use Rattle.wdf_model.specs.declared.enums.Group.TheVariants as group
 use Rattle.wdf_model.specs.Tables.{first_of_list}
-use Rattle.wdf_model.specs.parts.Pnp.{Pnp, Sequence, next_step, no_sequence, steps_left}
+use Rattle.wdf_model.specs.parts.Pnp.{Pnp, next_step}
 use Rattle.wdf_model.specs.parts.Power.{resume_due, stop_was_asked}
 use Rattle.wdf_model.specs.parts.Targets.{the_target}
 use Rattle.wdf_model.specs.parts.Tree.{nearest_device}
 use Rattle.wdf_model.specs.rules.Starts.{level_fits}
+use Rattle.wdf_pnp.specs.Stepping.{none_stepping}
+use Rattle.wdf_pnp.proofs.Stepping.{at_rest}
 use Rattle.wdf_target.specs.Laden.{none_laden}
 use Rattle.wdf_target.proofs.Noting.{unladen}
 use Rattle.wdf_offers.specs.declared.for_requests.Herd.{Herd}
@@ -27,11 +28,11 @@ use Rattle.wdf_offers.specs.declared.for_requests.Herd.TheVariants as herd
 use Rattle.wdf_offers.specs.ForRequests.{IsExact, can_be, herd_of, is_counted, is_due_for, rank_of, whole}
 use Rattle.wdf_offers.specs.Idle.{is_due_at, settles_next}
 use Rattle.wdf_offers.specs.Leaving.{IsSettled}
-use Rattle.wdf_offers.specs.Resting.{none_counted, none_due, none_stepping, some_stepping}
+use Rattle.wdf_offers.specs.Resting.{none_counted, none_due}
 use Rattle.wdf_offers.specs.Search.{offered_from}
 use Rattle.wdf_offers.proofs.Cancels.{not_on}
 use Rattle.wdf_offers.proofs.HerdWalk.{none_of}
-use Rattle.wdf_offers.proofs.Herds.{entry_fails, exact_returns, exact_stops, whole_part, whole_test}
+use Rattle.wdf_offers.proofs.Herds.{exact_returns, exact_stops, whole_part, whole_test}
 use Rattle.wdf_offers.proofs.NotOffered.{for_low, not_due, too_high_for}
 use Rattle.wdf_offers.proofs.Places.{nothing_there, past}
 
@@ -43,15 +44,9 @@ fails_with : (c w : Bool) → (c ≡ true → w ≡ true) → w ≡ false → c 
 fails_with true w part h = absurd (let on = part refl in let z : ⊥ = cc in z)
 fails_with false w part h = refl
 
-no_first : (ss : List Step) → nat_lt 0 (length ss) ≡ false → same_option same_step (first_of_list ss) (Some (step.Pass stage.Settled None)) ≡ false
-no_first [] h = refl
-no_first (s ∷ ss) h = let none = ltb-false 0 (length (s ∷ ss)) h in absurd (omega arith)
-
 -- where no device has a step left, none has one that says that its queues have settled
-settles_none : (P : Pnp) (d : ℕ) → not (some_stepping P) ≡ true → same_option same_step (next_step P d) (Some (step.Pass stage.Settled None)) ≡ false
-settles_none P d h =
-    no_first (steps_left P d)
-    (entry_fails (λ (q : Sequence). nat_lt 0 (length q.left)) no_sequence refl P.devices d (not_true (some_stepping P) h))
+settles_none : (P : Pnp) (d : ℕ) → none_stepping P ≡ true → same_option same_step (next_step P d) (Some (step.Pass stage.Settled None)) ≡ false
+settles_none P d h = ap (λ ss. same_option same_step (first_of_list ss) (Some (step.Pass stage.Settled None))) (at_rest P d h)
 
 module _ {A : Type 0} (plan : Plan) (m : Meaning A) (S : State A) (settled : IsSettled plan S) where
   module _ (h : Herd) (none : length (whole h S) ≡ 0) where
@@ -82,15 +77,15 @@ module _ {A : Type 0} (plan : Plan) (m : Meaning A) (S : State A) (settled : IsS
     counted_off rank.Resume e o = herd_off herd.Resume e o
     counted_off _ e o = absurd (let z : ⊥ = cc in z)
 
-    -- where no device has a step left, no queue stops, and EvtIoStop is due on none
+    -- where no device has a step left, EvtIoStop is due on no queue
     still_off : none_stepping S.pnp ≡ true → (q : ℕ) → offered_from plan m S (group.StartsFor cpu rank.Stop q) 0 ≡ []
     still_off e q =
-        let still : settles_next S (nearest_device S.tree q) ≡ false = settles_none S.pnp (nearest_device S.tree q) (both_right (nat_lt (length S.pnp.devices) (2 ^ 32)) (not (some_stepping S.pnp)) e) in
+        let still : settles_next S (nearest_device S.tree q) ≡ false = settles_none S.pnp (nearest_device S.tree q) e in
         nothing_there plan m S (group.StartsFor cpu rank.Stop q)
         (λ k. not_due plan m S cpu rank.Stop q k
         (right_fails (is_managed plan q && is_held_from S q k && not (stop_was_asked S.power k)) (settles_next S (nearest_device S.tree q)) still))
 
-    -- where none is counted for EvtIoStop, or no queue stops, nothing may come of it
+    -- where none is counted for EvtIoStop, or no device has a step left, nothing may come of it
     stops_off : (counted still : Bool) → none_counted S (herd_of rank.Stop) ≡ counted → none_stepping S.pnp ≡ still → (counted || still) ≡ true → (q : ℕ) → offered_from plan m S (group.StartsFor cpu rank.Stop q) 0 ≡ []
     stops_off true still a b e q = counted_off rank.Stop a q
     stops_off false still a b e q = still_off (b ∙ e) q

@@ -14,6 +14,5 @@ pub mod Leavers
 mod ComingBack
 pub mod Herds
 pub mod HerdWalk
-mod Stepping
 mod AtRest
 mod NoneAhead

@@ -1,11 +1,10 @@
 -- When no callback of a rank for requests starts on a processor, on whatever object. (own)
-use Rattle.std.specs.Prelude.{ℕ, Bool, false, not, ◌==◌, ◌&&◌, ◌||◌, nat_lt, ◌^◌, length, Option, Some, None}
-use Rattle.std.specs.List.{list_any}
+use Rattle.std.specs.Prelude.{ℕ, Bool, false, not, ◌==◌, ◌||◌, length, Option, Some, None}
 use Rattle.wdf_base.specs.declared.rank.Rank.{Rank}
 use Rattle.wdf_base.specs.declared.rank.Rank.TheVariants as rank
 use Rattle.wdf_model.specs.State.{State}
-use Rattle.wdf_model.specs.parts.Pnp.{Pnp, Sequence}
 use Rattle.wdf_model.specs.rules.Starts.{level_fits}
+use Rattle.wdf_pnp.specs.Stepping.{none_stepping}
 use Rattle.wdf_target.specs.Laden.{none_laden}
 use Rattle.wdf_offers.specs.declared.for_requests.Herd.{Herd}
 use Rattle.wdf_offers.specs.ForRequests.{herd_of, whole}
@@ -15,16 +14,8 @@ abbrev pub none_counted : {A : Type 0} → State A → Option Herd → Bool
 none_counted S None = false
 none_counted S (Some h) = length (whole h S) == 0
 
--- some device has a step left
-abbrev pub some_stepping : Pnp → Bool
-some_stepping P = list_any (λ (q : Sequence). nat_lt 0 (length q.left)) P.devices
-
--- no device has a step left, so that no queue stops; it isn't said of more devices than numbers of 32 bits name
-abbrev pub none_stepping : Pnp → Bool
-none_stepping P = nat_lt (length P.devices) (2 ^ 32) && not (some_stepping P)
-
 -- The callbacks of a rank are due for no request, as one part says: no target has any, or none is counted for whatever queue;
--- EvtIoStop also where no queue stops.
+-- EvtIoStop also where no device has a step left, so that none is about to pass `settled`.
 abbrev pub none_due : {A : Type 0} → State A → Rank → Bool
 none_due S rank.Completion = none_laden S.targets
 none_due S rank.Stop = none_counted S (herd_of rank.Stop) || none_stepping S.pnp

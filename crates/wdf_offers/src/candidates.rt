@@ -198,8 +198,8 @@ pub fn places_of_rank<A: Agent>(plan: &IndexedPlan, parts: &Parts<A>, rank: Rank
         Rank::Deferred => 1,
         Rank::Timed => parts.timers().len() as usize,
         Rank::Work => parts.work_items().len() as usize,
-        Rank::Cleanup => places_if(plan.declares_cleanups(), parts.tree().len()),
-        Rank::Destroy => places_if(plan.declares_destroys(), parts.tree().len()),
+        Rank::Cleanup => places_if(plan.declares_cleanup_callback(), parts.tree().len()),
+        Rank::Destroy => places_if(plan.declares_destroy_callback(), parts.tree().len()),
         _ => declared_end(plan),
     }
 }

@@ -126,7 +126,7 @@ fn is_serial(class: &ClassInfo) -> bool
 fn is_cleanup_over<A: Agent>(plan: &IndexedPlan, parts: &Parts<A>) -> bool
     ensures { IsTrue result → IsNumbered plan.now parts.now how.Cleanup }
 {
-    if !plan.declares_cleanups() {
+    if !plan.declares_cleanup_callback() {
         return true;
     }
     let end = parts.tree().len();
@@ -137,7 +137,7 @@ fn is_cleanup_over<A: Agent>(plan: &IndexedPlan, parts: &Parts<A>) -> bool
 fn is_destroy_over<A: Agent>(plan: &IndexedPlan, parts: &Parts<A>) -> bool
     ensures { IsTrue result → IsNumbered plan.now parts.now how.Destroy }
 {
-    if !plan.declares_destroys() {
+    if !plan.declares_destroy_callback() {
         return true;
     }
     let end = parts.tree().len();

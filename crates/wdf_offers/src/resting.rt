@@ -22,23 +22,14 @@ fn none_counted<A: Agent>(parts: &Parts<A>, herd: Option<Herd>) -> bool
     }
 }
 
-/// Whether no device has a step left. Then no queue stops. No device is looked at. It isn't said of more devices than numbers
-/// of 32 bits name: no scenario declares so many.
-fn none_stepping<A: Agent>(parts: &Parts<A>) -> bool
-    ensures { result ≡ resting.none_stepping parts.now.pnp }
-{
-    let end = parts.pnp().device_len();
-    end < 0x1_0000_0000 && parts.pnp().next_stepping(0, end as u32).is_none()
-}
-
-/// Whether the callbacks of a rank are due for no request, as one part says: of completion routines no target has a request.
-/// EvtIoStop is due for none either where no queue stops.
+/// Whether the callbacks of a rank are due for no request, as one part says: of completion routines no target has a request; of
+/// EvtIoStop none is counted, or no device has a step left, so that none is about to pass `settled`.
 fn none_due<A: Agent>(parts: &Parts<A>, rank: Rank) -> bool
     ensures { result ≡ resting.none_due parts.now rank }
 {
     match rank {
         Rank::Completion => parts.targets().none_laden(),
-        Rank::Stop => none_counted(parts, herd_of(rank)) || none_stepping(parts),
+        Rank::Stop => none_counted(parts, herd_of(rank)) || parts.pnp().none_stepping(),
         _ => none_counted(parts, herd_of(rank)),
     }
 }

@@ -18,7 +18,7 @@ impl<A: Agent> Parts<A> {
     pub fn is_with_driver(&self, r: ObjectId) -> bool
         ensures { result ≡ state.is_with_driver self.now r.0 }
     {
-        is_held(&self.requests, &self.targets, r)
+        is_with_driver_by(&self.requests, &self.targets, r)
     }
 
     /// Whether a request last became Owned from this queue, and the driver holds it.
@@ -128,7 +128,7 @@ impl<A: Agent> Parts<A> {
 }
 
 /// Whether the driver holds a request, by the two parts that say so: it is Owned, or Sent and will come back. (KMDF)
-pub fn is_held(requests: &Requests, targets: &Targets, r: ObjectId) -> bool
+pub fn is_with_driver_by(requests: &Requests, targets: &Targets, r: ObjectId) -> bool
     ensures { result ≡ state.held_at (is_forgotten targets.now r.0) (place_of requests.now r.0) }
 {
     match requests.place(r) {

@@ -21,5 +21,5 @@ pub record AreTables (plan : Plan) (tables : Tables) : Type 0 where
   pub belongings : tables.belongings ≡ devices_over plan
   pub handlers : tables.handlers.items ≡ handlers_of plan
   pub serving : tables.serving.items ≡ serving_of plan (devices_of plan)
-  pub cleans : tables.cleans ≡ is_declared_somewhere plan callback.EvtCleanupCallback
-  pub destroys : tables.destroys ≡ is_declared_somewhere plan callback.EvtDestroyCallback
+  pub cleanup_callback : tables.cleanup_callback ≡ is_declared_somewhere plan callback.EvtCleanupCallback
+  pub destroy_callback : tables.destroy_callback ≡ is_declared_somewhere plan callback.EvtDestroyCallback

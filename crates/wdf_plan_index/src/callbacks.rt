@@ -33,17 +33,17 @@ impl IndexedPlan {
     }
 
     /// Whether something declares EvtCleanupCallback.
-    pub fn declares_cleanups(&self) -> bool
+    pub fn declares_cleanup_callback(&self) -> bool
         ensures { result ≡ groups.is_declared_somewhere self.now Callback.EvtCleanupCallback }
     {
-        self.tables.cleans
+        self.tables.cleanup_callback
     }
 
     /// Whether something declares EvtDestroyCallback.
-    pub fn declares_destroys(&self) -> bool
+    pub fn declares_destroy_callback(&self) -> bool
         ensures { result ≡ groups.is_declared_somewhere self.now Callback.EvtDestroyCallback }
     {
-        self.tables.destroys
+        self.tables.destroy_callback
     }
 
     /// The handler of a queue for a type of requests: that for the type, else that for all types, else

@@ -26,17 +26,17 @@ pub(crate) struct Tables {
     /// The queues that take what arrives at each device, in the order of the devices.
     pub(crate) serving: Vec<Serving>,
     /// Whether something declares EvtCleanupCallback.
-    pub(crate) cleans: bool,
+    pub(crate) cleanup_callback: bool,
     /// Whether something declares EvtDestroyCallback.
-    pub(crate) destroys: bool,
+    pub(crate) destroy_callback: bool,
 }
 
 /// The tables of a plan.
 pub(crate) fn tables_of(alloc: Global, plan: &Plan) -> Result<Tables, Memory>
     ensures { IfOk result (λ tables. AreTables plan.now tables) }
 {
-    let cleans = is_declared_somewhere(plan, Callback::EvtCleanupCallback);
-    let destroys = is_declared_somewhere(plan, Callback::EvtDestroyCallback);
+    let cleanup_callback = is_declared_somewhere(plan, Callback::EvtCleanupCallback);
+    let destroy_callback = is_declared_somewhere(plan, Callback::EvtDestroyCallback);
     let ids = ids_of(alloc, plan, Owner::Device)?;
     let devices = Places::make(alloc, ids, plan.declared_len())?;
     let targets = ids_of(alloc, plan, Owner::Target)?;
@@ -54,7 +54,7 @@ pub(crate) fn tables_of(alloc: Global, plan: &Plan) -> Result<Tables, Memory>
         belongings,
         handlers,
         serving,
-        cleans,
-        destroys,
+        cleanup_callback,
+        destroy_callback,
     })
 }

@@ -1,5 +1,6 @@
 -- The devices that have a step left, as a set.
-use Rattle.std.specs.Prelude.{ℕ, ◌≡◌, ◌≤◌, nat_lt, Bool, List, length}
+use Rattle.std.specs.Prelude.{ℕ, ◌≡◌, ◌≤◌, ◌==◌, nat_lt, Bool, List, length}
+use Rattle.std.specs.List.{list_all}
 use Rattle.wdf_model.specs.parts.Pnp.{Pnp, Sequence, steps_left}
 use Rattle.wdf_sets.specs.Members.{is_in}
 use Rattle.wdf_pnp.specs.declared.pnp.Pnp.TheInside.{Inside}
@@ -7,6 +8,10 @@ use Rattle.wdf_pnp.specs.declared.pnp.Pnp.TheInside.{Inside}
 -- whether device d has a step left
 abbrev pub has_steps : Pnp → ℕ → Bool
 has_steps P d = nat_lt 0 (length (steps_left P d))
+
+-- whether no device has a step left
+abbrev pub none_stepping : Pnp → Bool
+none_stepping P = list_all (λ (q : Sequence). length q.left == 0) P.devices
 
 -- A set has a bit for each entry of the table of devices, and its members are those that have a step left.
 pub record HoldsStepping (devices : List Sequence) (bits : List Bool) : Type 0 where

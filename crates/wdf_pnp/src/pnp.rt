@@ -2,7 +2,7 @@ ghost use Rattle.std.specs.Prelude.{◌≡◌, ℕ, ◌+◌, ◌<◌, IfOk, Matc
 ghost use Rattle.wdf_model.specs.Tables.{entry};
 ghost use Rattle.wdf_model.specs.parts.Pnp as pnp;
 ghost use Rattle.wdf_pnp.specs.Opening.{sequence_at};
-ghost use Rattle.wdf_pnp.specs.Stepping.{has_steps};
+ghost use Rattle.wdf_pnp.specs.Stepping.{has_steps, none_stepping};
 ghost use Rattle.wdf_sets.specs.Nexts.{IsNext, NoneFrom};
 
 use crate::sequence::Sequence;
@@ -120,6 +120,13 @@ impl Pnp {
         ensures { MatchOption result (NoneFrom (has_steps self.now) from end) (λ id. IsNext (has_steps self.now) from end id) }
     {
         self.stepping.next(from, end)
+    }
+
+    /// Whether no device has a step left. It looks at no device.
+    pub fn none_stepping(&self) -> bool
+        ensures { result ≡ none_stepping self.now }
+    {
+        self.stepping.len() == 0
     }
 
     /// The step of a device whose callback runs.

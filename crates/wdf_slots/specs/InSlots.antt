@@ -18,17 +18,19 @@ read_slot blank slots (suc key) = in_slot blank (get slots key)
 abbrev pub entries_in : {T : Type 0} → T → Inside T → List T
 entries_in blank a = map (read_slot blank a.slots) a.slot_of.items
 
--- Each slot that an id has is taken, two ids have no slot in common, and each slot that is taken is of an id.
+-- Each slot that an id has is taken, two ids have no slot in common, and as many slots are taken as ids have one: so each
+-- slot that is taken is of one id.
 pub record AreApart {T : Type 0} (slot_of : List ℕ) (slots : Slab T) : Type 0 where
   pub taken : (id key : ℕ) → entry 0 slot_of id ≡ suc key → IsSome (get slots key)
   pub apart : (id other key : ℕ) → entry 0 slot_of id ≡ suc key → entry 0 slot_of other ≡ suc key → other ≡ id
   pub many : slab_len slots ≡ count_by (nat_lt 0) slot_of
 
--- That, and there is room for each id and its slot; a key and one more are numbers of 32 bits.
-pub record HaveSlots {T : Type 0} (nothing : T) (most : ℕ) (a : Inside T) : Type 0 where
+-- The slots are apart; there is room for `most` ids and a slot for each, and no more ids came; one more than a key is a number
+-- of 32 bits; and what an id without a slot says is `nothing_there`.
+pub record HaveSlots {T : Type 0} (nothing_there : T) (most : ℕ) (a : Inside T) : Type 0 where
   pub room : most ≤ vec_capacity a.slot_of
   pub slots_room : most ≤ a.slots.capacity
   pub keys : a.slots.capacity < 2 ^ 32
   pub few : length a.slot_of.items ≤ most
-  pub blank : a.blank ≡ nothing
+  pub blank : a.blank ≡ nothing_there
   pub apart : AreApart a.slot_of.items a.slots

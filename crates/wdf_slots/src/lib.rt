@@ -1,4 +1,4 @@
-//! Maps by id of which only what is there takes memory: an entry that becomes blank gives its slot back.
+//! Maps by id whose entries are in slots: an entry that is removed is blank, and the next one takes its slot.
 //!
 //! # Choices
 //!
@@ -8,8 +8,8 @@
 //!   says what that is, and how many ids there may be ([`ById`]), so no function that reads such a map has a premise on
 //!   it.
 //! - **How is an entry changed in its place?** [`Slots::at_mut`] lends it; an id that has none gets a slot first.
-//! - **Which memory does it take?** The room of all is taken before the run. Memory that is not touched costs nothing, so
-//!   what it costs is 4 bytes for each id that came, and a slot for each of the most that were there at a time.
+//! - **Which memory does it take?** The room of all is taken before the run, and what isn't touched is address space alone. So
+//!   it takes 4 bytes for each id that came, and a slot for each of the most that were there at a time.
 #![tactic(auto)]
 
 mod by_id;

@@ -9,8 +9,8 @@ use std::marker::Model;
 use wdf_base::Memory;
 use wdf_maps::{entry_at, put_at};
 
-/// Entries by id. An id whose entry is blank may have no slot, so the memory that is touched is that of the most
-/// entries that were there at a time. No call but [`Slots::make`] takes memory.
+/// Entries by id. An id that has no slot has the blank entry, so beside 4 bytes for each id that came the memory that is
+/// touched is that of the most slots that were taken at a time. No call but [`Slots::make`] takes memory.
 ///
 /// Contracts see the list of the entries, as far as ids came, with the blank one for each id that has no slot.
 #[derive(Drop)]
@@ -37,13 +37,13 @@ impl<T: ById> Model for Slots<T> {
 impl<T: ById> Slots<T> {
     ghost use Rattle.wdf_slots.specs.Lends.{lends_entry};
 
-    /// No entry, and room for each id. On [`Memory`] nothing is made.
+    /// No entry, and room for each id. On [`Memory`], which also answers a slab with room for 2^32 entries, nothing is made.
     pub fn make(alloc: Global) -> Result<Slots<T>, Memory>
         ensures { IfOk result (λ made. made ≡ []) }
     {
         let slot_of = Vec::with_capacity(alloc, T::ROOM as usize)?;
         let slots = Slab::with_capacity(alloc, T::ROOM as usize)?;
-        // So that one more than each key is a number of 32 bits. There is room for as many as were asked for.
+        // A slab may have more room than was asked for. One more than each key has to be a number of 32 bits.
         if slots.capacity() > u32::MAX as usize {
             return Err(Memory);
         }
@@ -62,11 +62,12 @@ impl<T: ById> Slots<T> {
         self.slots.clear();
     }
 
-    /// How many ids there are up to the greatest that had an entry, from 0.
+    /// How many ids came, from 0: up to the greatest that was written or removed since [`Slots::make`] or [`Slots::clear`].
     pub fn len(&self) -> u32
         ensures value { result ≡ length self.now }
         ensures few { result ≤ T.ROOM }
     {
+        // No more ids came than there are slots, and these are fewer than 2^32: the number of ids is one of 32 bits.
         let _room = self.slots.capacity();
         self.slot_of.len() as u32
     }
@@ -109,7 +110,7 @@ impl<T: ById> Slots<T> {
         self.put(id, value);
     }
 
-    /// The entry of an id becomes blank, and gives its slot back.
+    /// The entry of an id becomes blank, with blank ones on the way to it; where it has a slot, that is given back.
     pub fn remove(&mut self, id: u32)
         requires { id < T.ROOM }
         ensures { self.new ≡ put T.blank self.old id T.blank }

@@ -4,7 +4,7 @@ ghost use Rattle.wdf_model.specs.rules.Steps.{seen_by};
 use wdf_base::{Cpu, Frame, FrameId, Irql, Kind, Life, LockRef, Mark, ObjectId, Place};
 use wdf_cpu::Cpus;
 use wdf_lock::{Locks, scope_of_object};
-use wdf_parts::is_held;
+use wdf_parts::is_with_driver_by;
 use wdf_plan_index::IndexedPlan;
 use wdf_power::Power;
 use wdf_request::Requests;
@@ -75,7 +75,7 @@ impl View for TopFrame<'_> {
     }
 
     fn held(&self, r: ObjectId) -> bool {
-        is_held(self.requests, self.targets, r)
+        is_with_driver_by(self.requests, self.targets, r)
     }
 
     fn acknowledged(&self, r: ObjectId) -> bool {

@@ -17,7 +17,7 @@ use wdf_sets::IdSet;
 use wdf_slots::Slots;
 
 /// The objects of the machine: what they are, who is above whom, and how far the deletion of each
-/// has come. An object that is gone keeps its id, and nothing else.
+/// has come. An object that is gone keeps its id and reads as gone; its slot is given back.
 ///
 /// Contracts see wdf_model's record of the tree. Every call but [`Tree::make`] takes no memory.
 #[derive(Drop)]

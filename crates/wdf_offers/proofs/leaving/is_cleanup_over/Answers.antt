@@ -4,9 +4,9 @@ use Rattle.wdf_base.specs.declared.call.Callback.TheVariants as callback
 use Rattle.wdf_offers.proofs.Leavers.{turns_over, none_is, none_over}
 use Rattle.wdf_offers.proofs.leaving.is_cleanup_over.Goals as goal
 
-pub returns-then-not-declares_cleanups : goal.returns-then-not-declares_cleanups
-returns-then-not-declares_cleanups g c h o on =
-    none_over c.args.plan.now c.args.parts.now callback.EvtCleanupCallback (sym c.declares_cleanups.ensures ∙ c.if-not-declares_cleanups.true) o
+pub returns-then-not-declares_cleanup_callback : goal.returns-then-not-declares_cleanup_callback
+returns-then-not-declares_cleanup_callback g c h o on =
+    none_over c.args.plan.now c.args.parts.now callback.EvtCleanupCallback (sym c.declares_cleanup_callback.ensures ∙ c.if-not-declares_cleanup_callback.true) o
 
 pub returns : goal.returns
 returns g c h o on =

@@ -4,9 +4,9 @@ use Rattle.wdf_base.specs.declared.call.Callback.TheVariants as callback
 use Rattle.wdf_offers.proofs.Leavers.{ends_over, none_is, none_over}
 use Rattle.wdf_offers.proofs.leaving.is_destroy_over.Goals as goal
 
-pub returns-then-not-declares_destroys : goal.returns-then-not-declares_destroys
-returns-then-not-declares_destroys g c h o on =
-    none_over c.args.plan.now c.args.parts.now callback.EvtDestroyCallback (sym c.declares_destroys.ensures ∙ c.if-not-declares_destroys.true) o
+pub returns-then-not-declares_destroy_callback : goal.returns-then-not-declares_destroy_callback
+returns-then-not-declares_destroy_callback g c h o on =
+    none_over c.args.plan.now c.args.parts.now callback.EvtDestroyCallback (sym c.declares_destroy_callback.ensures ∙ c.if-not-declares_destroy_callback.true) o
 
 pub returns : goal.returns
 returns g c h o on =

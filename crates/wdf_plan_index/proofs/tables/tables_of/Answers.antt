@@ -27,6 +27,6 @@ returns c = record {
   belongings = c.in_ok-belongings.ensures ∙ c.in_ok-over.ensures;
   handlers = c.in_ok-handlers.ensures;
   serving = c.in_ok-serving.ensures ∙ ap (serving_of c.args.plan.now) (c.in_ok-devices.ensures ∙ c.in_ok-ids.ensures.ids ∙ device_ids c.args.plan.now);
-  cleans = c.is_declared_somewhere-cleans.ensures;
-  destroys = c.is_declared_somewhere-destroys.ensures;
+  cleanup_callback = c.is_declared_somewhere-cleanup_callback.ensures;
+  destroy_callback = c.is_declared_somewhere-destroy_callback.ensures;
 }

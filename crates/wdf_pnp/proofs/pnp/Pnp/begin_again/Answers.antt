@@ -2,7 +2,7 @@
 use Rattle.std.proofs.Common.{ℕ, ◌≡◌, ◌+◌, ◌≤◌, length, sym, ap, subst, ◌∙◌, arith}
 use Rattle.wdf_model.specs.parts.Pnp.{Pnp, sequence_of}
 use Rattle.wdf_pnp.specs.Opening.{sequence_at}
-use Rattle.wdf_pnp.proofs.Stepping.{none_stepping, opening_long}
+use Rattle.wdf_pnp.proofs.Stepping.{opening_stepping, opening_long}
 use Rattle.wdf_pnp.proofs.pnp.Pnp.begin_again.Goals as goal
 
 pub begin_all-requires-clause-ids : goal.begin_all-requires-clause-ids
@@ -20,4 +20,4 @@ invariant_of-self c =
     let long : length c.self.inside.devices.items ≡ 1 + length c.args.plan.now.declared = ap (λ (Q : Pnp). length Q.devices) c.self.view_is ∙ c.requires.ids in
     let room : length c.self.inside.devices.items ≤ length c.self.inside.stepping = c.self.invariant.room in
     let all = opening_long c.args.plan.now in
-    none_stepping c.args.plan.now _ _ (length c.self.inside.stepping) c.begin_all.ensures c.clear.ensures (omega (arith, long, room, all))
+    opening_stepping c.args.plan.now _ _ (length c.self.inside.stepping) c.begin_all.ensures c.clear.ensures (omega (arith, long, room, all))
