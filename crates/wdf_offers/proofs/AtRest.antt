@@ -36,7 +36,7 @@ use Rattle.wdf_offers.proofs.Herds.{exact_returns, exact_stops, whole_part, whol
 use Rattle.wdf_offers.proofs.NotOffered.{for_low, not_due, too_high_for}
 use Rattle.wdf_offers.proofs.Places.{nothing_there, past}
 
-none_among : (p : ℕ → Bool) (xs : List ℕ) → length xs ≡ 0 → None ≡ find p xs
+pub none_among : (p : ℕ → Bool) (xs : List ℕ) → length xs ≡ 0 → None ≡ find p xs
 none_among p [] h = refl
 none_among p (x ∷ xs) h = absurd (omega arith)
 

@@ -37,7 +37,7 @@ module _ (w : ℕ → Bool) (n : ℕ) (blank : (r : ℕ) → n ≤ r → w r ≡
   seen : (o : Option ℕ) → o ≡ find (nat_le at) (filter w (range_with_len 0 n)) → find (λ r. nat_le at r && w r) (range_with_len 0 n) ≡ o
   seen o h = sym (find_filter (nat_le at) w (range_with_len 0 n)) ∙ sym h
 
-  none_on : None ≡ find (nat_le at) (filter w (range_with_len 0 n)) → NoneOn w at
+  pub none_on : None ≡ find (nat_le at) (filter w (range_with_len 0 n)) → NoneOn w at
   none_on h r after = by (cases_lt r n)
     where
       by : (r < n) ⊎ (n ≤ r) → w r ≡ false
@@ -56,7 +56,7 @@ module _ {A : Type 0} (S : State A) where
   past_requests : (test : Request → Bool) → test no_request ≡ false → (r : ℕ) → length S.requests.all ≤ r → test (entry no_request S.requests.all r) ≡ false
   past_requests test none r past = ap test (entry_past no_request S.requests.all r past) ∙ none
 
-  past_holdings : (test : Holding → Bool) → test no_holding ≡ false → (r : ℕ) → length S.power.holdings ≤ r → test (entry no_holding S.power.holdings r) ≡ false
+  pub past_holdings : (test : Holding → Bool) → test no_holding ≡ false → (r : ℕ) → length S.power.holdings ≤ r → test (entry no_holding S.power.holdings r) ≡ false
   past_holdings test none r past = ap test (entry_past no_holding S.power.holdings r past) ∙ none
 
   pub none_of : (h : Herd) (at : ℕ) → None ≡ find (nat_le at) (whole h S) → NoneOn (whole_test h S) at

@@ -15,3 +15,4 @@ mod ComingBack
 pub mod Herds
 pub mod HerdWalk
 mod AtRest
+mod NoneAhead

@@ -5,3 +5,4 @@ pub mod ForRequests
 pub mod Lesser
 pub mod Parked
 pub mod Resting
+pub mod Ahead

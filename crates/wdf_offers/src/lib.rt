@@ -2,6 +2,7 @@
 //! it can be counted without a look at each.
 #![tactic(auto)]
 
+mod ahead;
 mod candidates;
 mod direct;
 mod due;
@@ -13,6 +14,7 @@ mod posts;
 mod resting;
 mod started;
 
+pub use ahead::next_object;
 pub use candidates::{
     callback_for, completion_at, declared_end, parks, places_for, places_in, places_of_rank,
     stage_at, start_for, unparks,

@@ -1,4 +1,5 @@
 pub mod InBlocks
+mod Skipped
 pub mod Grouping
 pub mod EmptyCpus
 pub mod AnyOf

@@ -1,6 +1,6 @@
 -- Groups of candidates in blocks. The groups of one processor and one rank for requests follow one another, one for each
 -- object: they are one block. (own)
-use Rattle.std.specs.Prelude.{ℕ, Bool, ◌&&◌, List, [], ◌∷◌, filter, is_some, length}
+use Rattle.std.specs.Prelude.{ℕ, ◌≡◌, ◌<◌, ◌≤◌, Bool, ◌&&◌, List, [], ◌∷◌, drop, filter, is_some, length}
 use Rattle.std.specs.List.{flat_map}
 use Rattle.wdf_base.specs.Meaning.{Meaning}
 use Rattle.wdf_base.specs.declared.event.Event.{Event}
@@ -65,6 +65,16 @@ block_len plan m S o b = length (events_in plan m S o b)
 -- what may come of the starts of a rank on a processor for the requests of these objects
 abbrev pub events_for : {A : Type 0} → Plan → Meaning A → State A → ℕ → Rank → List ℕ → List Event
 events_for plan m S cpu r ids = events_of plan m S (groups_for cpu r ids)
+
+-- nothing may come for the objects from a place on, on whatever processor
+abbrev pub NothingAfter : {A : Type 0} → Plan → Meaning A → State A → Rank → List ℕ → ℕ → Type 0
+NothingAfter plan m S r ids from = (cpu : ℕ) → events_for plan m S cpu r (drop from ids) ≡ []
+
+-- A place of an object, such that nothing may come for those before it from another place on, on whatever processor.
+pub record IsNextAsked {A : Type 0} (plan : Plan) (m : Meaning A) (S : State A) (r : Rank) (ids : List ℕ) (from place : ℕ) : Type 0 where
+  pub after : from ≤ place
+  pub within : place < length ids
+  pub passed : (cpu : ℕ) → events_for plan m S cpu r (drop from ids) ≡ events_for plan m S cpu r (drop place ids)
 
 -- ---- those of a plan
 

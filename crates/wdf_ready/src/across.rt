@@ -1,5 +1,6 @@
 //! What may come of all groups, block by block. A block that rests is left by one test, and the others group by group.
-ghost use Rattle.std.specs.Prelude.{◌≡◌, ◌+◌, ◌*◌, ◌<◌, ◌≤◌, ◌^◌, IsTrue, Some, length, position, slice_get, MatchResult};
+ghost use Rattle.std.specs.Prelude.{◌≡◌, ◌+◌, ◌*◌, ◌<◌, ◌≤◌, ◌^◌, IsTrue, Some, false, length, nat_lt, position, slice_get, true, MatchOption, MatchResult};
+ghost use Rattle.std.specs.List.Sorted.{IsNonDecreasing, IsPartitionPoint};
 ghost use Rattle.wdf_offers.specs.Leaving.{IsSettled};
 ghost use Rattle.wdf_offers.specs.Search as search;
 ghost use Rattle.wdf_ready.specs.Actors as actors;
@@ -10,9 +11,48 @@ use crate::blocks::{Block, Blocks};
 use crate::search::{first_in, offered_at, offered_len, starts_for_at, starts_for_len};
 use wdf_base::{Actor, Agent, Cpu, Event, Rank};
 use wdf_model::Group;
-use wdf_offers::{own_len, rests};
+use wdf_offers::{next_object, own_len, rests};
 use wdf_parts::Parts;
 use wdf_plan_index::IndexedPlan;
+
+/// How many of some rising ids are below one.
+fn below(ids: &[u32], id: u32) -> usize
+    requires rising { IsNonDecreasing ids.now }
+    ensures within { result ≤ length ids.now }
+    ensures splits { IsPartitionPoint (λ x. nat_lt x id ≡ true) (λ x. nat_lt x id ≡ false) ids.now result }
+{
+    ids.partition_point(|x| *x < id)
+}
+
+/// The place of the first object, from a place on, that is asked for starts of a rank: none may come for those before it. It is
+/// found by what is counted, without a look at each.
+fn next_asked<A: Agent>(
+    plan: &IndexedPlan,
+    parts: &Parts<A>,
+    rank: Rank,
+    objects: &[u32],
+    from: usize,
+) -> Option<usize>
+    requires settled { IsSettled plan.now parts.now }
+    requires rising { IsNonDecreasing objects.now }
+    ensures { MatchOption result (blocks.NothingAfter plan.now A.meaning parts.now rank objects.now from)
+        (λ place. blocks.IsNextAsked plan.now A.meaning parts.now rank objects.now from place) }
+{
+    if from >= objects.len() {
+        return None;
+    }
+    let object = objects[from];
+    let next = next_object(plan, parts, rank, object);
+    if next <= object {
+        return Some(from);
+    }
+    let place = below(objects, next);
+    if place < objects.len() {
+        Some(place)
+    } else {
+        None
+    }
+}
 
 /// How many starts of a rank may come on a processor for the requests of these objects.
 fn each_len<A: Agent>(
@@ -25,12 +65,15 @@ fn each_len<A: Agent>(
     requires agents { length parts.now.agents ≤ 2 ^ 16 }
     requires settled { IsSettled plan.now parts.now }
     requires few { length objects.now < 2 ^ 20 }
+    requires rising { IsNonDecreasing objects.now }
     ensures length { result ≡ length (blocks.events_for plan.now A.meaning parts.now cpu rank objects.now) }
     ensures small { result ≤ length objects.now * 2 ^ 32 }
 {
     let mut sum = 0;
-    for object in objects {
-        sum += starts_for_len(plan, parts, cpu, rank, *object);
+    let mut at = 0;
+    'walk: while let Some(place) = next_asked(plan, parts, rank, objects, at) {
+        sum += starts_for_len(plan, parts, cpu, rank, objects[place]);
+        at = place + 1;
     }
     sum
 }
@@ -46,15 +89,18 @@ fn each_at<A: Agent>(
 ) -> Result<Event, usize>
     requires agents { length parts.now.agents ≤ 2 ^ 16 }
     requires settled { IsSettled plan.now parts.now }
+    requires rising { IsNonDecreasing objects.now }
     ensures { MatchResult result (λ event. slice_get (blocks.events_for plan.now A.meaning parts.now cpu rank objects.now) k ≡ Some event)
         (λ rest. length (blocks.events_for plan.now A.meaning parts.now cpu rank objects.now) + rest ≡ k) }
 {
     let mut left = k;
-    for object in objects {
-        match starts_for_at(plan, parts, cpu, rank, *object, left) {
+    let mut at = 0;
+    'walk: while let Some(place) = next_asked(plan, parts, rank, objects, at) {
+        match starts_for_at(plan, parts, cpu, rank, objects[place], left) {
             Ok(event) => return Ok(event),
             Err(rest) => left = rest,
         }
+        at = place + 1;
     }
     Err(left)
 }

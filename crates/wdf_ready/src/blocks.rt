@@ -1,6 +1,7 @@
 //! Groups of candidates in blocks. The groups of one processor and one rank for requests follow one another, one for each
 //! object: they are one block, which is left as a whole where nothing may come of it. (own)
 ghost use Rattle.std.specs.Prelude.{◌≡◌, ◌<◌, Some, length, slice_get};
+ghost use Rattle.std.specs.List.Sorted.{IsNonDecreasing};
 ghost use Rattle.wdf_ready.specs.Blocks as blocks;
 
 use std::marker::Model;
@@ -17,7 +18,8 @@ pub enum Block {
     ForEach { cpu: u8, rank: Rank },
 }
 
-/// For which objects the groups of each rank for requests are, by rising id, whatever the processor.
+/// For which objects the groups of each rank for requests are, by rising id, whatever the processor. That the ids rise is an
+/// invariant.
 pub struct Objects {
     pub(crate) targets: Vec<u32>,
     pub(crate) cancels: Vec<u32>,
@@ -56,12 +58,17 @@ impl Model for Objects {
       stops = o.stops.items;
       resumes = o.resumes.items;
     } };
+
+    ghost use Rattle.wdf_ready.specs.InObjects.{AreRising};
+
+    ghost invariant = { AreRising };
 }
 
 impl Objects {
     /// Those of a rank.
     pub(crate) fn of(&self, rank: Rank) -> &[u32]
-        ensures { result.now ≡ blocks.objects_of self.now rank }
+        ensures ids { result.now ≡ blocks.objects_of self.now rank }
+        ensures rising { IsNonDecreasing result.now }
     {
         match rank {
             Rank::Completion => self.targets.as_slice(),
@@ -122,7 +129,8 @@ impl Blocks {
 
     /// The objects of a rank.
     pub(crate) fn objects_of(&self, rank: Rank) -> &[u32]
-        ensures { result.now ≡ blocks.objects_of self.now.objects rank }
+        ensures ids { result.now ≡ blocks.objects_of self.now.objects rank }
+        ensures rising { IsNonDecreasing result.now }
     {
         self.objects.of(rank)
     }

@@ -14,4 +14,4 @@ returns-then-rests g c =
 
 pub returns-else-rests : goal.returns-else-rests
 returns-else-rests g c =
-    subst (λ es. AtOrLeft c.each_at.result es c.args.k) (sym (in_each c.args.plan.now g.A.Agent.meaning c.args.parts.now c.args.all.now.objects c.args.block _ _ _ c.in-ForEach.is c.objects_of.ensures)) c.each_at.ensures
+    subst (λ es. AtOrLeft c.each_at.result es c.args.k) (sym (in_each c.args.plan.now g.A.Agent.meaning c.args.parts.now c.args.all.now.objects c.args.block _ _ _ c.in-ForEach.is c.objects_of.ensures.ids)) c.each_at.ensures

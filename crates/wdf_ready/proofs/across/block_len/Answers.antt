@@ -19,16 +19,16 @@ returns-then-rests-clause-length g c =
 
 pub each_len-requires-clause-few : goal.each_len-requires-clause-few
 each_len-requires-clause-few g c =
-    let many = each_groups c.args.all.now.objects c.args.block _ _ _ c.in-ForEach.is c.objects_of.ensures in
+    let many = each_groups c.args.all.now.objects c.args.block _ _ _ c.in-ForEach.is c.objects_of.ensures.ids in
     let few = c.requires.few in
     omega (arith, many, few)
 
 pub returns-else-rests-clause-length : goal.returns-else-rests-clause-length
 returns-else-rests-clause-length g c =
-    c.each_len.ensures.length ∙ sym (ap length (in_each c.args.plan.now g.A.Agent.meaning c.args.parts.now c.args.all.now.objects c.args.block _ _ _ c.in-ForEach.is c.objects_of.ensures))
+    c.each_len.ensures.length ∙ sym (ap length (in_each c.args.plan.now g.A.Agent.meaning c.args.parts.now c.args.all.now.objects c.args.block _ _ _ c.in-ForEach.is c.objects_of.ensures.ids))
 
 pub returns-else-rests-clause-small : goal.returns-else-rests-clause-small
 returns-else-rests-clause-small g c =
-    let many = each_groups c.args.all.now.objects c.args.block _ _ _ c.in-ForEach.is c.objects_of.ensures in
+    let many = each_groups c.args.all.now.objects c.args.block _ _ _ c.in-ForEach.is c.objects_of.ensures.ids in
     let small = c.each_len.ensures.small in
     omega (arith, many, small)

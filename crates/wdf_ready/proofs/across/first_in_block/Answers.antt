@@ -13,14 +13,14 @@ returns-in-One-clause-small g c =
 
 pub first_of_each-requires-clause-few : goal.first_of_each-requires-clause-few
 first_of_each-requires-clause-few g c =
-    let many = each_groups c.args.all.now.objects c.args.block _ _ _ c.in-ForEach.is c.objects_of.ensures in
+    let many = each_groups c.args.all.now.objects c.args.block _ _ _ c.in-ForEach.is c.objects_of.ensures.ids in
     let few = c.requires.few in
     omega (arith, many, few)
 
 pub returns-in-ForEach-clause-first : goal.returns-in-ForEach-clause-first
 returns-in-ForEach-clause-first g c =
-    subst (λ es. FirstOrNone c.args.actor c.first_of_each.result es) (sym (in_each c.args.plan.now g.A.Agent.meaning c.args.parts.now c.args.all.now.objects c.args.block _ _ _ c.in-ForEach.is c.objects_of.ensures)) c.first_of_each.ensures.first
+    subst (λ es. FirstOrNone c.args.actor c.first_of_each.result es) (sym (in_each c.args.plan.now g.A.Agent.meaning c.args.parts.now c.args.all.now.objects c.args.block _ _ _ c.in-ForEach.is c.objects_of.ensures.ids)) c.first_of_each.ensures.first
 
 pub returns-in-ForEach-clause-small : goal.returns-in-ForEach-clause-small
 returns-in-ForEach-clause-small g c =
-    small_enough c.first_of_each.result _ _ (sym (each_groups c.args.all.now.objects c.args.block _ _ _ c.in-ForEach.is c.objects_of.ensures)) c.first_of_each.ensures.small
+    small_enough c.first_of_each.result _ _ (sym (each_groups c.args.all.now.objects c.args.block _ _ _ c.in-ForEach.is c.objects_of.ensures.ids)) c.first_of_each.ensures.small

@@ -1,0 +1,11 @@
+-- How the fields of the lists of objects are in order.
+use Rattle.std.specs.List.Sorted.{IsNonDecreasing}
+use Rattle.wdf_ready.specs.declared.blocks.Objects.TheInside.{Inside}
+
+-- The ids of each list rise.
+pub record AreRising (o : Inside) : Type 0 where
+  pub targets : IsNonDecreasing o.targets.items
+  pub cancels : IsNonDecreasing o.cancels.items
+  pub returns : IsNonDecreasing o.returns.items
+  pub stops : IsNonDecreasing o.stops.items
+  pub resumes : IsNonDecreasing o.resumes.items
