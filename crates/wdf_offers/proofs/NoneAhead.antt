@@ -25,7 +25,7 @@ use Rattle.wdf_target.specs.Laden.{is_laden}
 use Rattle.wdf_offers.specs.declared.for_requests.Herd.{Herd}
 use Rattle.wdf_offers.specs.declared.for_requests.Herd.TheVariants as herd
 use Rattle.wdf_offers.specs.Ahead.{NothingFor, goes_by_counts, has_counted, may_be_due, may_be_due_on}
-use Rattle.wdf_offers.specs.ForRequests.{IsExact, counted, herd_group, is_counted, may_begin}
+use Rattle.wdf_offers.specs.ForRequests.{IsExact, counted, herd_group, herd_of, is_counted, may_begin}
 use Rattle.wdf_offers.specs.Leaving.{IsSettled}
 use Rattle.wdf_offers.specs.Search.{offered_from}
 use Rattle.wdf_offers.proofs.AtRest.{none_among}
@@ -41,6 +41,11 @@ none_yet test from id after below = absurd (omega arith)
 -- where the callback is due on no queue for which none is counted
 pub by_counts : {A : Type 0} (S : State A) (h : Herd) (from to : ℕ) → goes_by_counts h S ≡ true → NoneFrom (has_counted h S) from to → NoneFrom (may_be_due_on S (Some h)) from to
 by_counts S h from to told none id after below = rw (none id after below, told) refl
+
+-- of another rank than that of completion routines its herd says it
+pub by_herd : {A : Type 0} (S : State A) (r : Rank) (from to : ℕ) → (r ≡ rank.Completion → ⊥) → NoneFrom (may_be_due_on S (herd_of r)) from to → NoneFrom (may_be_due S r) from to
+by_herd S rank.Completion from to other none = absurd (other refl)
+by_herd S r from to other none = none
 
 no_item : {T : Type 0} (xs : List T) → length xs ≡ 0 → xs ≡ []
 no_item [] h = refl
