@@ -6,11 +6,12 @@ use Rattle.std.proofs.lemmas.Bool.{cases_lt, ltb-false, ltb-true}
 use Rattle.std.proofs.lemmas.List.FromFn.{get_or-range_with_len, length-range_with_len}
 use Rattle.std.proofs.lemmas.List.Kept.{IsNonDecreasingBy-filter}
 use Rattle.wdf_base.specs.Meaning.{Meaning}
+use Rattle.wdf_base.specs.declared.event.Event.{Event}
 use Rattle.wdf_base.specs.declared.plan.Plan.{Plan}
 use Rattle.wdf_base.specs.declared.rank.Rank.{Rank}
 use Rattle.wdf_model.specs.State.{State}
 use Rattle.wdf_offers.specs.Ahead.{NothingFor}
-use Rattle.wdf_offers.proofs.Passing.{drops_all, index_there, piece_opens}
+use Rattle.wdf_offers.proofs.Passing.{Passed, drops_all, index_there, piece_opens, same_rest}
 use Rattle.wdf_ready.specs.Blocks.{IsNextAsked, NothingAfter, events_for, is_startable, startable}
 use Rattle.wdf_ready.proofs.InBlocks.{each_are, for_object}
 
@@ -79,9 +80,12 @@ module _ {A : Type 0} (plan : Plan) (m : Meaning A) (S : State A) (r : Rank) (id
 
 -- ---- object by object
 
-module _ {A : Type 0} (plan : Plan) (m : Meaning A) (S : State A) (cpu : ℕ) (r : Rank) (ids : List ℕ) (from : ℕ) where
-  pub pieces_to : (place : ℕ) → IsNextAsked plan m S r ids from place → flat_map (for_object plan m S cpu r) (drop from ids) ≡ flat_map (for_object plan m S cpu r) (drop place ids)
-  pieces_to place next = sym (each_are plan m S cpu r (drop from ids)) ∙ next.passed cpu ∙ each_are plan m S cpu r (drop place ids)
+module _ {A : Type 0} (plan : Plan) (m : Meaning A) (S : State A) (cpu : ℕ) (r : Rank) (ids : List ℕ) (from : ℕ) (all : List Event) (count : ℕ) where
+  pub passed_to : (place : ℕ) → IsNextAsked plan m S r ids from place → Passed all (flat_map (for_object plan m S cpu r) (drop from ids)) count
+      → Passed all (flat_map (for_object plan m S cpu r) (drop place ids)) count
+  passed_to place next p =
+      same_rest all (flat_map (for_object plan m S cpu r) (drop from ids)) (flat_map (for_object plan m S cpu r) (drop place ids)) count
+      (sym (each_are plan m S cpu r (drop from ids)) ∙ next.passed cpu ∙ each_are plan m S cpu r (drop place ids)) p
 
-  pub no_pieces : NothingAfter plan m S r ids from → flat_map (for_object plan m S cpu r) (drop from ids) ≡ []
-  no_pieces none = sym (each_are plan m S cpu r (drop from ids)) ∙ none cpu
+  pub passed_whole : NothingAfter plan m S r ids from → Passed all (flat_map (for_object plan m S cpu r) (drop from ids)) count → Passed all [] count
+  passed_whole none p = same_rest all (flat_map (for_object plan m S cpu r) (drop from ids)) [] count (sym (each_are plan m S cpu r (drop from ids)) ∙ none cpu) p

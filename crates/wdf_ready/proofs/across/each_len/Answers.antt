@@ -1,9 +1,9 @@
 -- An object more is counted.
 use Rattle.std.proofs.Common.{ap, sym, ◌∙◌, length, arith}
 use Rattle.std.specs.List.{flat_map}
-use Rattle.wdf_offers.proofs.Passing.{all_passed, index_there, nothing_passed, same_rest, so_many_pass}
+use Rattle.wdf_offers.proofs.Passing.{all_passed, index_there, nothing_passed, so_many_pass}
 use Rattle.wdf_ready.proofs.InBlocks.{each_are, for_object}
-use Rattle.wdf_ready.proofs.Skipped.{no_pieces, pieces_to}
+use Rattle.wdf_ready.proofs.Skipped.{passed_to, passed_whole}
 use Rattle.wdf_ready.proofs.across.each_len.Goals as goal
 
 pub walk-init : goal.walk-init
@@ -24,7 +24,7 @@ walk-preserved g c =
     record {
       passed = so_many_pass one c.args.objects.now (flat_map one c.args.objects.now) c.in-Some.place c.walk.sum _ _
           (index_there c.args.objects.now c.in-Some.place 0 within) c.starts_for_len-sum.ensures.length
-          (same_rest _ _ _ c.walk.sum (pieces_to c.args.plan.now g.A.Agent.meaning c.args.parts.now c.args.cpu c.args.rank c.args.objects.now c.walk.at c.in-Some.place c.in-Some.ensures) c.walk.invariant.passed);
+          (passed_to c.args.plan.now g.A.Agent.meaning c.args.parts.now c.args.cpu c.args.rank c.args.objects.now c.walk.at (flat_map one c.args.objects.now) c.walk.sum c.in-Some.place c.in-Some.ensures c.walk.invariant.passed);
       few = omega arith;
       within = omega arith;
     }
@@ -34,4 +34,4 @@ returns-clause-length g c =
     let one = for_object c.args.plan.now g.A.Agent.meaning c.args.parts.now c.args.cpu c.args.rank in
     sym (ap length (each_are c.args.plan.now g.A.Agent.meaning c.args.parts.now c.args.cpu c.args.rank c.args.objects.now)
     ∙ all_passed (flat_map one c.args.objects.now) c.walk.sum
-    (same_rest _ _ _ c.walk.sum (no_pieces c.args.plan.now g.A.Agent.meaning c.args.parts.now c.args.cpu c.args.rank c.args.objects.now c.walk.at c.in_default.ensures) c.walk.invariant.passed))
+    (passed_whole c.args.plan.now g.A.Agent.meaning c.args.parts.now c.args.cpu c.args.rank c.args.objects.now c.walk.at (flat_map one c.args.objects.now) c.walk.sum c.in_default.ensures c.walk.invariant.passed))
