@@ -73,7 +73,7 @@ fn push_see(out: &mut Text, line: Option<usize>) -> Result<(), Memory>
 }
 
 /// Adds a line of the wait list after a colon.
-fn push_wait(out: &mut Text, plan: &Plan, wait: &WaitLine) -> Result<(), Memory>
+fn push_wait_text(out: &mut Text, plan: &Plan, wait: &WaitLine) -> Result<(), Memory>
     ensures { OnOk result (out.new ≡ out.old ++ (codes ": " ++ wait_text plan.now wait.now ++ codes "\n")) }
 {
     push_three(out, b": ", wait_line(plan, wait).bytes(), b"\n")
@@ -84,7 +84,7 @@ fn push_line(out: &mut Text, plan: &Plan, number: usize, wait: &WaitLine) -> Res
     ensures { OnOk result (out.new ≡ out.old ++ numbered_text plan.now number wait.now) }
 {
     out.push_number(number as u64)?;
-    push_wait(out, plan, wait)
+    push_wait_text(out, plan, wait)
 }
 
 /// Adds why it is open, and the line for which it waits.
