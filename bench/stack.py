@@ -10,8 +10,8 @@ it. After 4,096 arrivals in all a connector answers without one, so from the 586
 In the runs `together` 100 reads come each 20 ticks, the queues give out 256 requests, and the bottom device keeps each read
 for 10 ticks, so that 100 are sent at once at each level. Beside each run stands the one by `order`, where each target is a
 driver of its own. Aims: an event takes no more than 1.5 times one of `order`, and no more with more reads. In the runs
-`together` an event takes some 2.5 times as long, and not by the connectors: up to 800 requests are sent at once, and three
-quarters of the instructions are the machine's, which looks for a completion routine among all of them. Figures are the
+`together` an event takes some four times as many instructions, and not by the connectors: up to 800 requests are sent at once,
+and the machine looks for a completion routine among all of them. Figures are the
 processor's seconds, the best of three runs.
 """
 
