@@ -19,7 +19,7 @@ module _ {T : Type 0} (key : T → ℕ) where
   pub rises_rest : (low high : ℕ) (x : T) (xs : List T) → rises key low high (x ∷ xs) ≡ true → rises key (suc (key x)) high xs ≡ true
   rises_rest low high x xs h = grind (arith, nat_tests)
 
-  from_parts : (low high : ℕ) (x : T) (xs : List T) → low ≤ key x → key x < high → rises key (suc (key x)) high xs ≡ true → rises key low high (x ∷ xs) ≡ true
+  pub from_parts : (low high : ℕ) (x : T) (xs : List T) → low ≤ key x → key x < high → rises key (suc (key x)) high xs ≡ true → rises key low high (x ∷ xs) ≡ true
   from_parts low high x xs a b c = grind (arith, nat_tests)
 
   -- how many items there may be
@@ -31,7 +31,7 @@ module _ {T : Type 0} (key : T → ℕ) where
       let r = length-rises (suc (key x)) high xs (rises_rest low high x xs h) (omega arith) in
       omega arith
 
-  rises_lower : (low lower high : ℕ) (xs : List T) → lower ≤ low → rises key low high xs ≡ true → rises key lower high xs ≡ true
+  pub rises_lower : (low lower high : ℕ) (xs : List T) → lower ≤ low → rises key low high xs ≡ true → rises key lower high xs ≡ true
   rises_lower low lower high [] k h = refl
   rises_lower low lower high (x ∷ xs) k h =
       let a = rises_low low high x xs h in
@@ -161,7 +161,7 @@ module _ {T : Type 0} (key : T → ℕ) where
       grind (arith, nat_tests)
 
   -- the list with a new item of its key
-  first_in_order : (low high : ℕ) (y : T) (xs : List T) → rises key low high xs ≡ true → key y < low → in_order_by key y xs ≡ y ∷ xs
+  pub first_in_order : (low high : ℕ) (y : T) (xs : List T) → rises key low high xs ≡ true → key y < low → in_order_by key y xs ≡ y ∷ xs
   first_in_order low high y [] h l = refl
   first_in_order low high y (x ∷ xs) h l = let a = rises_low low high x xs h in grind (arith, nat_tests)
 

@@ -1,4 +1,4 @@
-ghost use Rattle.std.specs.Prelude.{◌≡◌, ◌<◌, ◌^◌, IfOk, None, Some, length, slice_get, is_some, [], true};
+ghost use Rattle.std.specs.Prelude.{◌≡◌, ◌<◌, ◌≤◌, ◌^◌, IfOk, None, Some, length, slice_get, is_some, [], true};
 ghost use Rattle.wdf_maps.specs.Places.{rises, IsPlace, SplitsAt, entry_of, others, with_entry};
 
 use crate::entry::Entry;
@@ -52,9 +52,10 @@ impl<T: Entry> Rising<T> {
         self.entries.clear();
     }
 
-    /// How many entries there are.
+    /// How many entries there are, which have room.
     pub fn len(&self) -> u32
-        ensures { result ≡ length self.now.entries }
+        ensures length { result ≡ length self.now.entries }
+        ensures within { length self.now.entries ≤ self.now.room }
     {
         self.entries.len() as u32
     }

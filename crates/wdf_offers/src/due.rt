@@ -77,6 +77,31 @@ fn next_cancel<A: Agent>(
     None
 }
 
+fn next_routine<A: Agent>(
+    plan: &IndexedPlan,
+    parts: &Parts<A>,
+    t: ObjectId,
+    from: usize,
+    end: usize,
+) -> Option<usize>
+{
+    let mut at = from;
+    'search: while at < end {
+        let place = match parts.targets().next_finished(t, at as u32) {
+            Some(place) => place as usize,
+            None => return None,
+        };
+        if place >= end {
+            return None;
+        }
+        if is_due_at(plan, parts, Rank::Completion, t, place) {
+            return Some(place);
+        }
+        at = place + 1;
+    }
+    None
+}
+
 /// The same for a callback of any rank: it asks each place.
 fn next_of_all<A: Agent>(
     plan: &IndexedPlan,
@@ -115,6 +140,7 @@ pub fn next_due<A: Agent>(
 {
     match rank {
         Rank::Cancel => next_cancel(plan, parts, object, from, end),
+        Rank::Completion => next_routine(plan, parts, object, from, end),
         _ => next_of_all(plan, parts, rank, object, from, end),
     }
 }

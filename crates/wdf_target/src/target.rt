@@ -16,6 +16,8 @@ pub(crate) struct Target {
     depth: u64,
     stopped: bool,
     sent: Rising<Sending>,
+    /// Those among them whose completion routine is due.
+    finished: Rising<Sending>,
 }
 
 impl Model for Target {
@@ -45,10 +47,12 @@ impl Target {
     fn make(alloc: Global, depth: u64, stopped: bool) -> Result<Target, Memory>
         ensures { IfOk result (λ made. made ≡ record { depth = depth; stopped = stopped; sent = [] }) }
     {
+        let room = depth.min(u64::from(OBJECTS)) as u32;
         Ok(Target {
             depth,
             stopped,
-            sent: Rising::make(alloc, depth.min(u64::from(OBJECTS)) as u32)?,
+            sent: Rising::make(alloc, room)?,
+            finished: Rising::make(alloc, room)?,
         })
     }
 
@@ -69,6 +73,7 @@ impl Target {
     {
         self.stopped = opening_stopped(info);
         self.sent.clear();
+        self.finished.clear();
     }
 
     /// How many requests it holds.
@@ -130,13 +135,15 @@ impl Target {
             return false;
         };
         if sending.forgotten {
-            self.sent.remove(r);
+            self.remove(r);
             return false;
         }
-        self.sent.put(Sending {
+        let done = Sending {
             outcome: Some(status),
             ..sending
-        });
+        };
+        self.sent.put(done);
+        self.finished.put(done);
         true
     }
 
@@ -145,5 +152,23 @@ impl Target {
         ensures { self.new ≡ targets.without_sending r.0 self.old }
     {
         self.sent.remove(r);
+        self.finished.remove(r);
+    }
+
+    /// Whether the completion routine of a request that it holds is due.
+    pub(crate) fn has_finished(&self) -> bool {
+        self.finished.len() > 0
+    }
+
+    /// The first place from one on of a request whose completion routine is due.
+    pub(crate) fn next_finished(&self, from: u32) -> Option<u32> {
+        if from >= self.sent.len() {
+            return None;
+        }
+        let place = self.finished.before(self.sent.at(from).request.0);
+        if place >= self.finished.len() {
+            return None;
+        }
+        Some(self.sent.before(self.finished.at(place).request.0))
     }
 }

@@ -71,7 +71,7 @@ fn note(laden: &mut IdSet, t: ObjectId, target: &Target)
     requires { t.0 < length laden.old }
     ensures { laden.new ≡ slice_set laden.old t.0 (has_any target.now) }
 {
-    laden.put(t.0, target.len() > 0);
+    laden.put(t.0, target.has_finished());
 }
 
 impl Targets {
@@ -140,6 +140,10 @@ impl Targets {
         ensures { result ≡ none_laden self.now }
     {
         self.laden.len() == 0
+    }
+
+    pub fn next_finished(&self, t: ObjectId, from: u32) -> Option<u32> {
+        self.targets.get(t.0 as usize)?.next_finished(from)
     }
 
     /// What is kept of a request that a target holds.
