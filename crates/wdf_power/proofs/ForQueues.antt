@@ -13,8 +13,8 @@ use Rattle.wdf_model.proofs.Maps.{entry_put_same, entry_put_other, entry_past}
 use Rattle.wdf_maps.specs.Counts.{AreCounted, is_at}
 use Rattle.wdf_sets.specs.Members.{is_in, members}
 use Rattle.wdf_sets.specs.Nexts.{IsNext, NoneFrom}
+use Rattle.wdf_sets.proofs.Nexts.{found_also}
 use Rattle.wdf_tally.specs.Counted.{is_counted}
-use Rattle.wdf_tally.proofs.Noting.{next_alike}
 use Rattle.wdf_power.specs.ForQueues.{IsSetOf, has_resuming, has_unasked, resuming, resuming_from, resuming_queue, unasked, unasked_from, unasked_queue}
 use Rattle.wdf_power.proofs.Readers.{count_ids}
 
@@ -42,12 +42,12 @@ resuming_counted P counts q counted within = counted.count q within ∙ resuming
 pub next_to_ask : (P : Power) (counts : List ℕ) (from : ℕ) (found : Option ObjectId) → AreCounted unasked_queue P.holdings counts
     → MatchOption found (NoneFrom (is_counted counts) from OBJECTS) (λ (o : ObjectId). IsNext (is_counted counts) from OBJECTS o.0)
     → MatchOption found (NoneFrom (has_unasked P) from OBJECTS) (λ (o : ObjectId). IsNext (has_unasked P) from OBJECTS o.0)
-next_to_ask P counts from found counted k = next_alike (is_counted counts) (has_unasked P) from (λ id below. ap (nat_lt 0) (unasked_counted P counts id counted below)) found k
+next_to_ask P counts from found counted k = found_also (is_counted counts) (has_unasked P) from OBJECTS (λ id above below. ap (nat_lt 0) (unasked_counted P counts id counted below)) (λ (o : ObjectId). o.0) found k
 
 pub next_to_resume : (P : Power) (counts : List ℕ) (from : ℕ) (found : Option ObjectId) → AreCounted resuming_queue P.holdings counts
     → MatchOption found (NoneFrom (is_counted counts) from OBJECTS) (λ (o : ObjectId). IsNext (is_counted counts) from OBJECTS o.0)
     → MatchOption found (NoneFrom (has_resuming P) from OBJECTS) (λ (o : ObjectId). IsNext (has_resuming P) from OBJECTS o.0)
-next_to_resume P counts from found counted k = next_alike (is_counted counts) (has_resuming P) from (λ id below. ap (nat_lt 0) (resuming_counted P counts id counted below)) found k
+next_to_resume P counts from found counted k = found_also (is_counted counts) (has_resuming P) from OBJECTS (λ id above below. ap (nat_lt 0) (resuming_counted P counts id counted below)) (λ (o : ObjectId). o.0) found k
 
 -- ---- the set
 

@@ -12,8 +12,8 @@ use Rattle.wdf_model.proofs.Counts.{count_cons}
 use Rattle.wdf_maps.specs.Counts.{AreCounted, is_at}
 use Rattle.wdf_sets.specs.Members.{members}
 use Rattle.wdf_sets.specs.Nexts.{IsNext, NoneFrom}
+use Rattle.wdf_sets.proofs.Nexts.{found_also}
 use Rattle.wdf_tally.specs.Counted.{is_counted}
-use Rattle.wdf_tally.proofs.Noting.{next_alike}
 use Rattle.wdf_request.specs.Closing.{IsSetOf}
 use Rattle.wdf_request.specs.ForQueues.{due_from, has_due, has_returning, returning_requests, returning_to}
 use Rattle.wdf_request.specs.Keys.{due_queue, returning_queue}
@@ -67,12 +67,12 @@ due_counted R counts q counted within = counted.count q within ∙ due_found R q
 pub next_returned : (R : Requests) (counts : List ℕ) (from : ℕ) (found : Option ObjectId) → AreCounted (λ (r : Request). returning_queue r.place) R.all counts
     → MatchOption found (NoneFrom (is_counted counts) from OBJECTS) (λ (o : ObjectId). IsNext (is_counted counts) from OBJECTS o.0)
     → MatchOption found (NoneFrom (has_returning R) from OBJECTS) (λ (o : ObjectId). IsNext (has_returning R) from OBJECTS o.0)
-next_returned R counts from found counted k = next_alike (is_counted counts) (has_returning R) from (λ id below. ap (nat_lt 0) (returning_counted R counts id counted below)) found k
+next_returned R counts from found counted k = found_also (is_counted counts) (has_returning R) from OBJECTS (λ id above below. ap (nat_lt 0) (returning_counted R counts id counted below)) (λ (o : ObjectId). o.0) found k
 
 pub next_cancelled : (R : Requests) (counts : List ℕ) (from : ℕ) (found : Option ObjectId) → AreCounted due_queue R.all counts
     → MatchOption found (NoneFrom (is_counted counts) from OBJECTS) (λ (o : ObjectId). IsNext (is_counted counts) from OBJECTS o.0)
     → MatchOption found (NoneFrom (has_due R) from OBJECTS) (λ (o : ObjectId). IsNext (has_due R) from OBJECTS o.0)
-next_cancelled R counts from found counted k = next_alike (is_counted counts) (has_due R) from (λ id below. ap (nat_lt 0) (due_counted R counts id counted below)) found k
+next_cancelled R counts from found counted k = found_also (is_counted counts) (has_due R) from OBJECTS (λ id above below. ap (nat_lt 0) (due_counted R counts id counted below)) (λ (o : ObjectId). o.0) found k
 
 -- no request belongs to no queue
 pub none_due : due_queue no_request ≡ None

@@ -89,10 +89,3 @@ next_counted counts bits from (Some x) (Some o) h e k =
     rw same (next_also (λ id. is_in id bits) (is_counted counts) from OBJECTS (λ id above below. h.same id below) x k)
 next_counted counts bits from None (Some o) h e k = absurd (let z : ⊥ = cc in z)
 next_counted counts bits from (Some x) None h e k = absurd (let z : ⊥ = cc in z)
-
--- the first object by one test is that by another, which says the same of each id that an object may have
-pub next_alike : (p q : ℕ → Bool) (from : ℕ) → ((id : ℕ) → id < OBJECTS → p id ≡ q id) → (found : Option ObjectId)
-    → MatchOption found (NoneFrom p from OBJECTS) (λ (o : ObjectId). IsNext p from OBJECTS o.0)
-    → MatchOption found (NoneFrom q from OBJECTS) (λ (o : ObjectId). IsNext q from OBJECTS o.0)
-next_alike p q from same None k = none_also p q from OBJECTS (λ id above below. same id below) k
-next_alike p q from same (Some o) k = next_also p q from OBJECTS (λ id above below. same id below) o.0 k
