@@ -4,3 +4,4 @@ mod Passing
 mod Changes
 mod Noted
 pub mod Nexts
+pub mod SetOf

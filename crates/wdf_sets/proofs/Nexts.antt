@@ -1,5 +1,5 @@
 -- The first member from an id on: what a search over ids finds, and what the set finds.
-use Rattle.std.proofs.Common.{if◌then◌else◌, ℕ, zero, suc, ◌≡◌, ◌⊎◌, ◌+◌, ◌-◌, ◌<◌, ◌≤◌, Bool, true, false, ◌&&◌, List, [], ◌∷◌, Some, None, length, slice_get, refl, ap, sym, ◌∙◌, inl, inr, arith}
+use Rattle.std.proofs.Common.{if◌then◌else◌, ℕ, zero, suc, ◌≡◌, ◌⊎◌, ◌+◌, ◌-◌, ◌<◌, ◌≤◌, Bool, true, false, ◌&&◌, List, [], ◌∷◌, Option, Some, None, MatchOption, length, slice_get, refl, ap, sym, ◌∙◌, inl, inr, arith}
 use Rattle.std.specs.Prelude.{nat_le}
 use Rattle.std.specs.List.{filter, find, range_with_len}
 use Rattle.std.proofs.lemmas.Bool.{cases_lt, le-leb, leb-false, leb-true}
@@ -156,3 +156,8 @@ module _ (p q : ℕ → Bool) (from end : ℕ) (same : (id : ℕ) → from ≤ i
       let after = h.after in
       let within = h.within in
       record { after = after; within = within; passes = sym (same id after within) ∙ h.passes; before = λ x above below. sym (same x above (omega arith)) ∙ h.before x above below }
+
+  -- what was found, read as an id
+  pub found_also : {A : Type 0} (id_of : A → ℕ) (found : Option A) → MatchOption found (NoneFrom p from end) (λ x. IsNext p from end (id_of x)) → MatchOption found (NoneFrom q from end) (λ x. IsNext q from end (id_of x))
+  found_also id_of None h = none_also h
+  found_also id_of (Some x) h = next_also (id_of x) h

@@ -3,3 +3,4 @@ pub mod Words
 pub mod Parts
 pub mod Counted
 pub mod Nexts
+pub mod SetOf
