@@ -1,13 +1,12 @@
 -- The list that the set of enabled interrupts stands for: what is read of it, and a write.
-use Rattle.std.proofs.Common.{ℕ, zero, suc, ◌≡◌, ◌⊎◌, ◌+◌, ◌<◌, ◌≤◌, max, Bool, true, false, List, [], ◌∷◌, take, Option, Some, None, MatchOption, length, replicate, slice_set, refl, ap, ◌∙◌, inl, inr, get_or-set_other, length-set, arith}
+use Rattle.std.proofs.Common.{ℕ, zero, suc, ◌≡◌, ◌⊎◌, ◌+◌, ◌<◌, ◌≤◌, max, Bool, true, false, List, [], ◌∷◌, take, length, replicate, slice_set, refl, ap, ◌∙◌, inl, inr, get_or-set_other, length-set, arith}
 use Rattle.std.proofs.lemmas.Bool.{cases_lt}
 use Rattle.std.proofs.lemmas.List.{length-replicate}
 use Rattle.wdf_model.specs.declared.room.TheConstants.{OBJECTS}
 use Rattle.wdf_model.specs.Tables.{put}
 use Rattle.wdf_model.specs.parts.Interrupts.{Interrupts, is_enabled}
 use Rattle.wdf_sets.specs.Members.{is_in}
-use Rattle.wdf_sets.specs.Nexts.{IsNext, NoneFrom}
-use Rattle.wdf_sets.proofs.Nexts.{next_also, none_also}
+use Rattle.wdf_sets.proofs.SetOf.{none_in}
 use Rattle.wdf_intr.specs.Enabled.{HoldsEnabled}
 
 abbrev list_of : List Bool → ℕ → Interrupts
@@ -34,11 +33,6 @@ member_low bits end id h there = by (cases_lt id end)
     by (inr past) = let out = h.none id past in absurd (let z : ⊥ = cc in z)
 
 -- ---- none is enabled
-
-none_in : (n id : ℕ) → is_in id (replicate n false) ≡ false
-none_in zero id = refl
-none_in (suc n) zero = refl
-none_in (suc n) (suc id) = none_in n id
 
 pub none_enabled : (n : ℕ) (bits : List Bool) → OBJECTS ≤ n → bits ≡ replicate n false → HoldsEnabled bits 0
 none_enabled n bits room e = record {
@@ -81,10 +75,3 @@ put_holds bits end id on h low = record {
   within = let within = h.within in omega arith;
   none = λ x past. get_or-set_other bits id x on false (λ same. absurd (omega arith)) ∙ h.none x (omega arith);
 }
-
--- ---- the first from an id on
-
-pub next_listed : (bits : List Bool) (end from to : ℕ) (found : Option ℕ) → HoldsEnabled bits end → MatchOption found (NoneFrom (λ id. is_in id bits) from to) (λ id. IsNext (λ x. is_in x bits) from to id)
-    → MatchOption found (NoneFrom (is_enabled (list_of bits end)) from to) (λ id. IsNext (is_enabled (list_of bits end)) from to id)
-next_listed bits end from to None h k = none_also (λ id. is_in id bits) (is_enabled (list_of bits end)) from to (λ id above below. read bits end id h) k
-next_listed bits end from to (Some x) h k = next_also (λ id. is_in id bits) (is_enabled (list_of bits end)) from to (λ id above below. read bits end id h) x k

@@ -1,13 +1,11 @@
 -- Which queues present one request more, after a list was written.
-use Rattle.std.proofs.Common.{ℕ, zero, suc, ◌≡◌, ◌⊎◌, ◌*◌, ◌<◌, ◌≤◌, ◌==◌, ◌&&◌, not, Bool, true, false, List, [], Some, length, map, replicate, slice_set, length-set, get_or-set_same, get_or-set_other, refl, ap, sym, ◌∙◌, inl, inr, arith}
+use Rattle.std.proofs.Common.{ℕ, ◌≡◌, ◌*◌, ◌<◌, ◌≤◌, ◌==◌, ◌&&◌, not, Bool, true, false, List, [], Some, length, map, replicate, slice_set, get_or-set_same, get_or-set_other, refl, ap, ◌∙◌, arith}
 use Rattle.std.specs.Int.{div_ceil}
-use Rattle.std.proofs.lemmas.Bool.{cases_eq}
-use Rattle.std.proofs.lemmas.List.{length-replicate}
 use Rattle.wdf_ilist.specs.Family.{Family, AreApart, is_on, list_at, list_of, without}
 use Rattle.wdf_ilist.proofs.Lists.{list_within, on_list_of, one_leaves}
 use Rattle.wdf_model.specs.parts.Queues.{Queues, is_free}
-use Rattle.wdf_sets.specs.Members.{is_in}
-use Rattle.wdf_queue.specs.Queues.{HoldsPresentable}
+use Rattle.wdf_sets.proofs.SetOf.{empty_set, set_put}
+use Rattle.wdf_queue.specs.Queues.{HoldsPresentable, presents}
 use Rattle.wdf_queue.proofs.Rising.{empty_at}
 
 -- ---- one list is written
@@ -15,17 +13,11 @@ use Rattle.wdf_queue.proofs.Rising.{empty_at}
 -- with the bit of its queue the set stays right
 pub list_written : (Q : Queues) (bits : List Bool) (q : ℕ) (list : List ℕ) (on : Bool) → HoldsPresentable Q bits → q < length Q.dispatch → q < length Q.waiting
     → on ≡ (not (length list == 0) && is_free Q q) → HoldsPresentable (record Q { waiting = slice_set Q.waiting q list }) (slice_set bits q on)
-list_written Q bits q list on h there known here = record {
-  room = rw (length-set bits q on) h.room;
-  same = λ p. by p (cases_eq p q);
-}
-  where
-    within : q < length bits
-    within = let r = h.room in omega arith
-
-    by : (p : ℕ) → (p ≡ q) ⊎ (p ≡ q → ⊥) → is_in p (slice_set bits q on) ≡ (not (length (list_at (slice_set Q.waiting q list) p) == 0) && is_free Q p)
-    by p (inl same) = rw (same, get_or-set_same bits q on false within, get_or-set_same Q.waiting q list [] known) here
-    by p (inr other) = rw (get_or-set_other bits q p on false other, get_or-set_other Q.waiting q p list [] other) (h.same p)
+list_written Q bits q list on h there known here =
+    let after : Queues = record Q { waiting = slice_set Q.waiting q list } in
+    let within : q < length bits = let r = h.room in omega arith in
+    set_put (presents Q) (presents after) (length Q.dispatch) bits q on h within (rw (get_or-set_same Q.waiting q list [] known) here)
+    (λ p other. rw (get_or-set_other Q.waiting q p list [] other) refl)
 
 -- ---- one leaves its list
 
@@ -47,16 +39,9 @@ list_known family bits n r q its long room =
 
 -- ---- nobody waits
 
-none_in : (n id : ℕ) → is_in id (replicate n false) ≡ false
-none_in zero id = refl
-none_in (suc n) zero = refl
-none_in (suc n) (suc id) = none_in n id
-
 pub none_present : (Q : Queues) (n m : ℕ) (bits : List Bool) → Q.waiting ≡ replicate n [] → bits ≡ replicate m false → length Q.dispatch ≤ m → HoldsPresentable Q bits
-none_present Q n m bits nobody none room = record {
-  room = rw (none, length-replicate) room;
-  same = λ p. ap (is_in p) none ∙ none_in m p ∙ sym (ap (λ (xs : List ℕ). not (length xs == 0) && is_free Q p) (ap (λ lists. list_at lists p) nobody ∙ empty_at n p));
-}
+none_present Q n m bits nobody none room =
+    empty_set (presents Q) (length Q.dispatch) m bits none room (λ p. ap (λ (xs : List ℕ). not (length xs == 0) && is_free Q p) (ap (λ lists. list_at lists p) nobody ∙ empty_at n p))
 
 -- a set has room for each id
 pub rounded_up : (n bound : ℕ) → n ≤ bound → n ≤ 4096 * div_ceil bound 4096

@@ -1,7 +1,7 @@
 -- The queues that the fields stand for.
-use Rattle.std.specs.Prelude.{ℕ, ◌≡◌, ◌≤◌, Bool, true, false, not, ◌&&◌, List, [], length}
+use Rattle.std.specs.Prelude.{ℕ, ◌≡◌, Bool, true, false, not, ◌&&◌, List, [], length}
 use Rattle.wdf_maps.specs.Places.{rises}
-use Rattle.wdf_sets.specs.Members.{is_in}
+use Rattle.wdf_sets.specs.SetOf.{IsSetOf}
 use Rattle.wdf_model.specs.declared.room.TheConstants.{OBJECTS}
 use Rattle.wdf_model.specs.Tables.{entry}
 use Rattle.wdf_model.specs.parts.Queues.{Queues, is_empty_queue, is_free}
@@ -14,10 +14,9 @@ queues_in s = record { dispatch = s.dispatch.items; waiting = s.waiting.lists; h
 abbrev pub presents : Queues → ℕ → Bool
 presents Q q = not (is_empty_queue Q q) && is_free Q q
 
--- The set has a bit for each id, and its members are the queues that present one request more now.
-pub record HoldsPresentable (Q : Queues) (bits : List Bool) : Type 0 where
-  pub room : length Q.dispatch ≤ length bits
-  pub same : (q : ℕ) → is_in q bits ≡ presents Q q
+-- The members are the queues that present one request more now.
+abbrev pub HoldsPresentable : Queues → List Bool → Type 0
+HoldsPresentable Q bits = IsSetOf (presents Q) (length Q.dispatch) bits
 
 -- Each list that is marked rises by id. Of the others the marks say nothing.
 abbrev pub AreMarked : List Bool → List (List ℕ) → Type 0
