@@ -1,4 +1,5 @@
 pub mod Sendings
+pub mod Nexts
 pub mod Kept
 pub mod Acts
 pub mod Openings

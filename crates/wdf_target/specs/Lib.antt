@@ -1,4 +1,4 @@
-pub mod Laden
+pub mod Finished
 pub mod Opened
 pub mod Target
 pub mod Targets

@@ -1,6 +1,8 @@
-ghost use Rattle.std.specs.Prelude.{◌≡◌, ◌<◌, ◌&&◌, IfOk, None, [], is_some, length, nat_lt, not, slice_get};
+ghost use Rattle.std.specs.Prelude.{◌≡◌, ◌<◌, ◌&&◌, IfOk, MatchOption, None, [], is_some, length, nat_lt, not, slice_get};
 ghost use Rattle.wdf_model.specs.parts.Targets as targets;
 ghost use Rattle.wdf_maps.specs.Places.{entry_of};
+ghost use Rattle.wdf_sets.specs.Nexts.{IsNext, NoneFrom};
+ghost use Rattle.wdf_target.specs.Finished.{done_at, has_done};
 ghost use Rattle.wdf_target.specs.Target.{request_id};
 
 use std::alloc::Global;
@@ -16,8 +18,8 @@ pub(crate) struct Target {
     depth: u64,
     stopped: bool,
     sent: Rising<Sending>,
-    /// Those among them whose completion routine is due.
-    finished: Rising<Sending>,
+    /// Once more those that it is done with and that come back, so that none of the others is looked at for them.
+    done: Rising<Sending>,
 }
 
 impl Model for Target {
@@ -52,7 +54,7 @@ impl Target {
             depth,
             stopped,
             sent: Rising::make(alloc, room)?,
-            finished: Rising::make(alloc, room)?,
+            done: Rising::make(alloc, room)?,
         })
     }
 
@@ -73,7 +75,7 @@ impl Target {
     {
         self.stopped = opening_stopped(info);
         self.sent.clear();
-        self.finished.clear();
+        self.done.clear();
     }
 
     /// How many requests it holds.
@@ -138,12 +140,13 @@ impl Target {
             self.remove(r);
             return false;
         }
-        let done = Sending {
+        let finished = Sending {
             outcome: Some(status),
             ..sending
         };
-        self.sent.put(done);
-        self.finished.put(done);
+        let _within = self.sent.len();
+        self.sent.put(finished);
+        self.done.put(finished);
         true
     }
 
@@ -152,23 +155,28 @@ impl Target {
         ensures { self.new ≡ targets.without_sending r.0 self.old }
     {
         self.sent.remove(r);
-        self.finished.remove(r);
+        self.done.remove(r);
     }
 
-    /// Whether the completion routine of a request that it holds is due.
-    pub(crate) fn has_finished(&self) -> bool {
-        self.finished.len() > 0
+    /// Whether it is done with a request that comes back.
+    pub(crate) fn has_done(&self) -> bool
+        ensures { result ≡ has_done self.now }
+    {
+        self.done.len() > 0
     }
 
-    /// The first place from one on of a request whose completion routine is due.
-    pub(crate) fn next_finished(&self, from: u32) -> Option<u32> {
+    /// The first place from one on, by rising id from 0, of a request that it is done with and that comes back.
+    pub(crate) fn next_done(&self, from: u32) -> Option<u32>
+        ensures { MatchOption result (NoneFrom (done_at self.now) from (length self.now.sent)) (λ k. IsNext (done_at self.now) from (length self.now.sent) k) }
+    {
         if from >= self.sent.len() {
             return None;
         }
-        let place = self.finished.before(self.sent.at(from).request.0);
-        if place >= self.finished.len() {
+        let least = self.sent.at(from).request;
+        let place = self.done.before(least.0);
+        if place >= self.done.len() {
             return None;
         }
-        Some(self.sent.before(self.finished.at(place).request.0))
+        Some(self.sent.before(self.done.at(place).request.0))
     }
 }

@@ -2,7 +2,7 @@ ghost use Rattle.std.specs.Prelude.{◌≡◌, ℕ, ◌+◌, ◌<◌, IfOk, Matc
 ghost use Rattle.wdf_model.specs.Tables.{entry};
 ghost use Rattle.wdf_model.specs.parts.Targets as targets;
 ghost use Rattle.wdf_sets.specs.Nexts.{IsNext, NoneFrom};
-ghost use Rattle.wdf_target.specs.Laden.{has_any, is_laden, none_laden};
+ghost use Rattle.wdf_target.specs.Finished.{finished_at, has_done, has_finished, none_finished};
 
 use crate::target::Target;
 use std::alloc::Global;
@@ -14,16 +14,16 @@ use wdf_model::{OBJECTS, Sending};
 use wdf_sets::IdSet;
 
 /// The I/O targets: which are stopped, and what is sent to each. The target that has a request is kept
-/// too, and which targets have one, so that no call but [`Targets::make`] and [`Targets::begin_again`] looks at more than
-/// one target, and none but the first takes memory.
+/// too, and which targets are done with one that comes back, so that no call but [`Targets::make`] and
+/// [`Targets::begin_again`] looks at more than one target, and none but the first takes memory.
 #[derive(Drop)]
 pub struct Targets {
     /// By id, for the driver object and the declared objects.
     targets: Vec<Target>,
     /// By request, the target that has it.
     holders: Vec<Option<ObjectId>>,
-    /// The targets that have a request.
-    laden: IdSet,
+    /// The targets that are done with a request that comes back.
+    with_done: IdSet,
 }
 
 impl Model for Targets {
@@ -66,12 +66,12 @@ fn begin_all(all: &mut Vec<Target>, plan: &Plan)
     }
 }
 
-/// Notes whether a target has a request.
-fn note(laden: &mut IdSet, t: ObjectId, target: &Target)
-    requires { t.0 < length laden.old }
-    ensures { laden.new ≡ slice_set laden.old t.0 (has_any target.now) }
+/// Notes whether a target is done with a request that comes back.
+fn note(with_done: &mut IdSet, t: ObjectId, target: &Target)
+    requires { t.0 < length with_done.old }
+    ensures { with_done.new ≡ slice_set with_done.old t.0 (has_done target.now) }
 {
-    laden.put(t.0, target.has_finished());
+    with_done.put(t.0, target.has_done());
 }
 
 impl Targets {
@@ -81,11 +81,11 @@ impl Targets {
     {
         let targets = open(alloc, plan)?;
         let holders = Vec::with_capacity(alloc, OBJECTS as usize)?;
-        let laden = IdSet::for_table(alloc, targets.len())?;
+        let with_done = IdSet::for_table(alloc, targets.len())?;
         Ok(Targets {
             targets,
             holders,
-            laden,
+            with_done,
         })
     }
 
@@ -98,7 +98,7 @@ impl Targets {
     {
         begin_all(&mut self.targets, plan);
         self.holders.clear();
-        self.laden.clear();
+        self.with_done.clear();
     }
 
     /// How many requests a target holds.
@@ -128,22 +128,30 @@ impl Targets {
         self.targets[t.0 as usize].at(k)
     }
 
-    /// The first target from an id on, below an end, that has a request. It doesn't look at the others.
-    pub fn next_laden(&self, from: u32, end: u32) -> Option<u32>
-        ensures { MatchOption result (NoneFrom (is_laden self.now) from end) (λ t. IsNext (is_laden self.now) from end t) }
+    /// The first target from an id on, below an end, that has a request whose completion routine is due. It doesn't look at the others.
+    pub fn next_with_finished(&self, from: u32, end: u32) -> Option<u32>
+        ensures { MatchOption result (NoneFrom (has_finished self.now) from end) (λ t. IsNext (has_finished self.now) from end t) }
     {
-        self.laden.next(from, end)
+        self.with_done.next(from, end)
     }
 
-    /// Whether no target has a request. It looks at none.
-    pub fn none_laden(&self) -> bool
-        ensures { result ≡ none_laden self.now }
+    /// Whether no completion routine is due. It looks at no target.
+    pub fn none_finished(&self) -> bool
+        ensures { result ≡ none_finished self.now }
     {
-        self.laden.len() == 0
+        self.with_done.len() == 0
     }
 
-    pub fn next_finished(&self, t: ObjectId, from: u32) -> Option<u32> {
-        self.targets.get(t.0 as usize)?.next_finished(from)
+    /// The first place from one on, by rising id from 0, of what a target has whose completion routine is due. It doesn't look at
+    /// the others.
+    pub fn next_finished(&self, t: ObjectId, from: u32) -> Option<u32>
+        ensures { MatchOption result (NoneFrom (finished_at self.now t.0) from (targets.pending self.now t.0))
+            (λ k. IsNext (finished_at self.now t.0) from (targets.pending self.now t.0) k) }
+    {
+        match self.targets.get(t.0 as usize) {
+            Some(target) => target.next_done(from),
+            None => None,
+        }
     }
 
     /// What is kept of a request that a target holds.
@@ -205,7 +213,7 @@ impl Targets {
         }
         let target = &mut self.targets[t.0 as usize];
         target.add(r, forget);
-        note(&mut self.laden, t, target);
+        note(&mut self.with_done, t, target);
         put_at(&mut self.holders, None, r.0, Some(t));
         true
     }
@@ -220,7 +228,7 @@ impl Targets {
         };
         let target = &mut self.targets[t.0 as usize];
         let keeps = target.finish(r, status);
-        note(&mut self.laden, t, target);
+        note(&mut self.with_done, t, target);
         self.holders[r.0 as usize] = keeps.then_some(t);
     }
 
@@ -234,7 +242,7 @@ impl Targets {
         };
         let target = &mut self.targets[t.0 as usize];
         target.remove(r);
-        note(&mut self.laden, t, target);
+        note(&mut self.with_done, t, target);
         self.holders[r.0 as usize] = None;
     }
 
