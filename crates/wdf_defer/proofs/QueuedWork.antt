@@ -3,6 +3,8 @@ use Rattle.std.proofs.Common.{ℕ, zero, suc, ◌≡◌, ◌≢◌, ◌⊎◌, i
 use Rattle.std.specs.List.{range_with_len}
 use Rattle.std.proofs.lemmas.Bool.{eq-eqb, eqb-true, cases_eq, lt-ltb}
 use Rattle.std.proofs.lemmas.Bool.Decides.{nat_tests}
+use Rattle.std.proofs.lemmas.List.{length-replicate}
+use Rattle.wdf_model.specs.declared.room.TheConstants.{OBJECTS}
 use Rattle.wdf_model.specs.Tables.{contains, without, in_order}
 use Rattle.wdf_model.specs.parts.Deferred.WorkItems.{WorkItems, is_work_queued, enqueue, cancel}
 use Rattle.wdf_model.proofs.Maps.{entry_past}
@@ -146,8 +148,15 @@ none_in (suc id) zero = refl
 none_in zero (suc n) = refl
 none_in (suc id) (suc n) = none_in id n
 
-pub no_members : (n : ℕ) → members (replicate n false) ≡ []
+no_members : (n : ℕ) → members (replicate n false) ≡ []
 no_members n = none_pass (λ id. is_in id (replicate n false)) 0 (length (replicate n false)) (λ id. none_in id n)
+
+-- a set that was made or cleared has no member, and room for each object
+pub made_empty : (n : ℕ) (bits : List Bool) → bits ≡ replicate n false → members bits ≡ []
+made_empty n bits e = ap members e ∙ no_members n
+
+pub made_long : (n : ℕ) (bits : List Bool) → OBJECTS ≤ n → bits ≡ replicate n false → OBJECTS ≤ length bits
+made_long n bits room e = rw (e, length-replicate n false) room
 
 -- ---- the acts
 

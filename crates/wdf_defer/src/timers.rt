@@ -9,7 +9,7 @@ ghost use Rattle.wdf_defer.specs.Timers.{AreApart, AreTimersInOrder, due_ids, is
 use crate::floors::{Floors, NEVER};
 use crate::reached::reach_all;
 use crate::ticks::DueTicks;
-use crate::work_items::{clear_set, empty_set};
+use crate::work_items::clear_set;
 use std::alloc::Global;
 use std::marker::Model;
 use wdf_base::{Memory, ObjectId, Plan};
@@ -75,9 +75,9 @@ impl Timers {
         ensures { IfOk result (λ made. made ≡ timers.no_timers) }
     {
         Ok(Timers {
-            queued: empty_set(alloc, OBJECTS)?,
+            queued: IdSet::make(alloc, OBJECTS)?,
             ticks: DueTicks::make(alloc)?,
-            reached: empty_set(alloc, OBJECTS)?,
+            reached: IdSet::make(alloc, OBJECTS)?,
             floors: Floors::make(alloc)?,
             least: NEVER,
             seen: 0,

@@ -1,4 +1,4 @@
-ghost use Rattle.std.specs.Prelude.{◌≡◌, ◌<◌, ◌≤◌, ◌^◌, IfOk, Some, [], filter, length, not, option_map, slice_get};
+ghost use Rattle.std.specs.Prelude.{◌≡◌, ◌<◌, IfOk, Some, [], filter, length, not, option_map, slice_get};
 ghost use Rattle.std.specs.List.{range_with_len};
 ghost use Rattle.wdf_model.specs.parts.Deferred.WorkItems as work_items;
 ghost use Rattle.wdf_sets.specs.Members.{members};
@@ -29,15 +29,6 @@ impl Model for WorkItems {
     ghost invariant = { IsSound };
 }
 
-/// The empty set of ids below a bound.
-pub(crate) fn empty_set(alloc: Global, bound: u32) -> Result<IdSet, Memory>
-    requires { bound < 2 ^ 31 }
-    ensures members { IfOk result (λ set. members set ≡ []) }
-    ensures room { IfOk result (λ set. bound ≤ length set) }
-{
-    Ok(IdSet::make(alloc, bound)?)
-}
-
 /// A set has no member any more.
 pub(crate) fn clear_set(set: &mut IdSet)
     ensures members { members set.new ≡ [] }
@@ -52,7 +43,7 @@ impl WorkItems {
         ensures { IfOk result (λ made. made ≡ work_items.no_work_items) }
     {
         Ok(WorkItems {
-            queued: empty_set(alloc, OBJECTS)?,
+            queued: IdSet::make(alloc, OBJECTS)?,
         })
     }
 

@@ -23,5 +23,5 @@ mod rising;
 pub use counts::Counts;
 pub use entry::Entry;
 pub use least::lesser_if;
-pub use map::{entry_at, object_at, put_at};
+pub use map::{entry_at, is_id, object_at, put_at};
 pub use rising::Rising;

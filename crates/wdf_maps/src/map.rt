@@ -1,5 +1,5 @@
 ghost use Rattle.std.specs.Prelude.{◌≡◌, ◌<◌, ◌≤◌, length, option_map, vec_capacity};
-ghost use Rattle.wdf_model.specs.Tables.{entry, put};
+ghost use Rattle.wdf_model.specs.Tables.{entry, put, same_id};
 
 use wdf_base::ObjectId;
 
@@ -33,4 +33,11 @@ pub fn object_at(id: Option<u32>) -> Option<ObjectId>
     ensures { option_map (λ o. o.0) result ≡ id }
 {
     id.map(ObjectId)
+}
+
+/// Whether there is an id, and it is this one.
+pub fn is_id(found: Option<ObjectId>, id: ObjectId) -> bool
+    ensures { result ≡ same_id (option_map (λ o. o.0) found) id.0 }
+{
+    found == Some(id)
 }

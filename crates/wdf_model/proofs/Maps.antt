@@ -21,6 +21,18 @@ put_behind blank (x ∷ xs) more new =
     let e : length (x ∷ xs) + more ≡ suc (length xs + more) = omega arith in
     rw e (ap (λ ys. x ∷ ys) (put_behind blank xs more new))
 
+-- just after the end, no blank entry comes
+pub put_next : {T : Type 0} (blank : T) (xs : List T) (new : T) → put blank xs (length xs) new ≡ xs ++ new ∷ []
+put_next blank [] new = refl
+put_next blank (x ∷ xs) new = ap (λ ys. x ∷ ys) (put_next blank xs new)
+
+-- of two writes at one id the later one counts
+pub put_put : {T : Type 0} (blank : T) (xs : List T) (id : ℕ) (old new : T) → put blank (put blank xs id old) id new ≡ put blank xs id new
+put_put blank [] zero old new = refl
+put_put blank [] (suc id) old new = ap (λ ys. blank ∷ ys) (put_put blank [] id old new)
+put_put blank (x ∷ xs) zero old new = refl
+put_put blank (x ∷ xs) (suc id) old new = ap (λ ys. x ∷ ys) (put_put blank xs id old new)
+
 -- the entry that was written
 pub entry_put_same : {T : Type 0} (blank : T) (xs : List T) (id : ℕ) (new : T) → entry blank (put blank xs id new) id ≡ new
 entry_put_same blank [] zero new = refl

@@ -93,9 +93,13 @@ held_at forgotten place.Owned = true
 held_at forgotten (place.Sent t) = not forgotten
 held_at forgotten _ = false
 
+-- whether the driver holds request r, by the requests' places and what the targets say is forgotten (KMDF)
+abbrev pub is_with_driver_by : Requests → Targets → ℕ → Bool
+is_with_driver_by R targets r = held_at (is_forgotten targets r) (place_of R r)
+
 -- whether the driver holds request r, wherever it came from; of an id that is no request it is false (KMDF)
 abbrev pub is_with_driver : {A : Type 0} → State A → ℕ → Bool
-is_with_driver S r = held_at (is_forgotten S.targets r) (place_of S.requests r)
+is_with_driver S r = is_with_driver_by S.requests S.targets r
 
 -- whether the driver holds request r, and queue q is the one from which r last became Owned (KMDF)
 abbrev pub is_held_from : {A : Type 0} → State A → ℕ → ℕ → Bool

@@ -26,4 +26,4 @@ mod single;
 
 pub use list::{Deeds, Lowered};
 pub use parts::Parts;
-pub use readers::{is_id, is_with_driver_by};
+pub use readers::is_with_driver_by;

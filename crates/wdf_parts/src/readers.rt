@@ -1,14 +1,12 @@
 //! What is asked of several parts at once.
-ghost use Rattle.std.specs.Prelude.{◌≡◌, option_map};
+ghost use Rattle.std.specs.Prelude.{◌≡◌};
 ghost use Rattle.wdf_base.specs.Lives.{is_live};
-ghost use Rattle.wdf_model.specs.Tables.{same_id};
-ghost use Rattle.wdf_model.specs.parts.Requests.{place_of};
-ghost use Rattle.wdf_model.specs.parts.Targets.{is_forgotten};
 ghost use Rattle.wdf_model.specs.parts.Tree.{life_of};
 ghost use Rattle.wdf_model.specs.State as state;
 
 use crate::parts::Parts;
 use wdf_base::{Agent, Callback, Declared, Handle, LockRef, ObjectId, Place, Status};
+use wdf_maps::is_id;
 use wdf_plan_index::IndexedPlan;
 use wdf_request::Requests;
 use wdf_target::Targets;
@@ -129,18 +127,11 @@ impl<A: Agent> Parts<A> {
 
 /// Whether the driver holds a request, by the two parts that say so: it is Owned, or Sent and will come back. (KMDF)
 pub fn is_with_driver_by(requests: &Requests, targets: &Targets, r: ObjectId) -> bool
-    ensures { result ≡ state.held_at (is_forgotten targets.now r.0) (place_of requests.now r.0) }
+    ensures { result ≡ state.is_with_driver_by requests.now targets.now r.0 }
 {
     match requests.place(r) {
         Place::Owned => true,
         Place::Sent(_) => !targets.is_forgotten(r),
         _ => false,
     }
-}
-
-/// Whether there is an id, and it is this one.
-pub fn is_id(found: Option<ObjectId>, id: ObjectId) -> bool
-    ensures { result ≡ same_id (option_map (λ o. o.0) found) id.0 }
-{
-    found == Some(id)
 }

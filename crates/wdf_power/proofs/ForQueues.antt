@@ -1,5 +1,5 @@
 -- The requests of a queue that weren't asked to stop, and those for which a resume is due: the ids of the sets and the counts by queue.
-use Rattle.std.proofs.Common.{Option, Some, None, MatchOption, if◌then◌else◌, ℕ, zero, suc, ◌≡◌, ◌⊎◌, inl, inr, ◌+◌, ◌-◌, ◌<◌, ◌≤◌, nat_lt, Bool, false, List, [], ◌∷◌, count_by, is_some, length, slice_set, replicate, refl, ap, sym, ◌∙◌, get_or-set_same, get_or-set_other, length-set, arith}
+use Rattle.std.proofs.Common.{Option, MatchOption, if◌then◌else◌, ℕ, zero, suc, ◌≡◌, ◌⊎◌, inl, inr, ◌+◌, ◌-◌, ◌<◌, ◌≤◌, nat_lt, Bool, false, List, [], ◌∷◌, count_by, is_some, length, slice_set, replicate, refl, ap, sym, ◌∙◌, get_or-set_same, get_or-set_other, length-set, arith}
 use Rattle.std.specs.List.{filter, range_with_len}
 use Rattle.std.proofs.lemmas.Bool.{cases_eq}
 use Rattle.std.proofs.lemmas.List.{length-replicate}
@@ -13,7 +13,7 @@ use Rattle.wdf_model.proofs.Maps.{entry_put_same, entry_put_other, entry_past}
 use Rattle.wdf_maps.specs.Counts.{AreCounted, is_at}
 use Rattle.wdf_sets.specs.Members.{is_in, members}
 use Rattle.wdf_sets.specs.Nexts.{IsNext, NoneFrom}
-use Rattle.wdf_sets.proofs.Nexts.{next_also, none_also}
+use Rattle.wdf_sets.proofs.Nexts.{found_also}
 use Rattle.wdf_tally.specs.Counted.{is_counted}
 use Rattle.wdf_power.specs.ForQueues.{IsSetOf, has_resuming, has_unasked, resuming, resuming_from, resuming_queue, unasked, unasked_from, unasked_queue}
 use Rattle.wdf_power.proofs.Readers.{count_ids}
@@ -39,22 +39,15 @@ resuming_found = found resuming_queue
 pub resuming_counted : (P : Power) (counts : List ℕ) (q : ℕ) → AreCounted resuming_queue P.holdings counts → q < OBJECTS → entry 0 counts q ≡ length (resuming_from P q)
 resuming_counted P counts q counted within = counted.count q within ∙ resuming_found P q
 
--- the first queue from an id on of which there are some
-next_queue : (p q : ℕ → Bool) (from : ℕ) → ((id : ℕ) → id < OBJECTS → p id ≡ q id) → (found : Option ObjectId)
-    → MatchOption found (NoneFrom p from OBJECTS) (λ (o : ObjectId). IsNext p from OBJECTS o.0)
-    → MatchOption found (NoneFrom q from OBJECTS) (λ (o : ObjectId). IsNext q from OBJECTS o.0)
-next_queue p q from same None k = none_also p q from OBJECTS (λ id above below. same id below) k
-next_queue p q from same (Some o) k = next_also p q from OBJECTS (λ id above below. same id below) o.0 k
-
 pub next_to_ask : (P : Power) (counts : List ℕ) (from : ℕ) (found : Option ObjectId) → AreCounted unasked_queue P.holdings counts
     → MatchOption found (NoneFrom (is_counted counts) from OBJECTS) (λ (o : ObjectId). IsNext (is_counted counts) from OBJECTS o.0)
     → MatchOption found (NoneFrom (has_unasked P) from OBJECTS) (λ (o : ObjectId). IsNext (has_unasked P) from OBJECTS o.0)
-next_to_ask P counts from found counted k = next_queue (is_counted counts) (has_unasked P) from (λ id below. ap (nat_lt 0) (unasked_counted P counts id counted below)) found k
+next_to_ask P counts from found counted k = found_also (is_counted counts) (has_unasked P) from OBJECTS (λ id above below. ap (nat_lt 0) (unasked_counted P counts id counted below)) (λ (o : ObjectId). o.0) found k
 
 pub next_to_resume : (P : Power) (counts : List ℕ) (from : ℕ) (found : Option ObjectId) → AreCounted resuming_queue P.holdings counts
     → MatchOption found (NoneFrom (is_counted counts) from OBJECTS) (λ (o : ObjectId). IsNext (is_counted counts) from OBJECTS o.0)
     → MatchOption found (NoneFrom (has_resuming P) from OBJECTS) (λ (o : ObjectId). IsNext (has_resuming P) from OBJECTS o.0)
-next_to_resume P counts from found counted k = next_queue (is_counted counts) (has_resuming P) from (λ id below. ap (nat_lt 0) (resuming_counted P counts id counted below)) found k
+next_to_resume P counts from found counted k = found_also (is_counted counts) (has_resuming P) from OBJECTS (λ id above below. ap (nat_lt 0) (resuming_counted P counts id counted below)) (λ (o : ObjectId). o.0) found k
 
 -- ---- the set
 

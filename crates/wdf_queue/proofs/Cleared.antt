@@ -1,16 +1,9 @@
 -- A queue that is emptied from its front.
-use Rattle.std.proofs.Common.{◌≡◌, ℕ, zero, suc, ◌<◌, true, false, List, [], ◌∷◌, length, drop, refl, ap, arith}
+use Rattle.std.proofs.Common.{◌≡◌, ℕ, ◌<◌, true, false, List, [], length, drop, refl, ap, arith}
 use Rattle.std.proofs.lemmas.Bool.{eqb-true, eqb-false}
 use Rattle.std.proofs.lemmas.List.{length-drop, nil_from_length}
-use Rattle.wdf_model.specs.Tables.{put}
 use Rattle.wdf_model.specs.parts.Queues.{Queues, clear, is_empty_queue, waiting_in, with_waiting}
-use Rattle.wdf_model.proofs.Maps.{entry_put_same, put_within, set_as_it_was}
-
-put_put : {T : Type 0} (blank : T) (xs : List T) (id : ℕ) (a b : T) → put blank (put blank xs id a) id b ≡ put blank xs id b
-put_put blank [] zero a b = refl
-put_put blank [] (suc id) a b = ap (λ ys. blank ∷ ys) (put_put blank [] id a b)
-put_put blank (x ∷ xs) zero a b = refl
-put_put blank (x ∷ xs) (suc id) a b = ap (λ ys. x ∷ ys) (put_put blank xs id a b)
+use Rattle.wdf_model.proofs.Maps.{entry_put_same, put_put, put_within, set_as_it_was}
 
 -- what was done to the waiting list before doesn't matter
 pub clear_rest : (Q : Queues) (q : ℕ) (f : List ℕ → List ℕ) → clear (with_waiting Q q f) q ≡ clear Q q

@@ -1,5 +1,5 @@
 -- The requests of a queue for which a callback is due: the ids of the set and the counts by queue.
-use Rattle.std.proofs.Common.{ℕ, suc, ◌≡◌, ◌+◌, ◌<◌, ◌≤◌, nat_lt, Bool, List, [], ◌∷◌, Option, Some, None, MatchOption, count_by, filter, is_some, length, refl, ap, sym, ◌∙◌, add-zero, arith}
+use Rattle.std.proofs.Common.{ℕ, suc, ◌≡◌, ◌+◌, ◌<◌, ◌≤◌, nat_lt, Bool, List, [], ◌∷◌, Option, None, MatchOption, count_by, filter, is_some, length, refl, ap, sym, ◌∙◌, add-zero, arith}
 use Rattle.std.specs.List.{range_with_len}
 use Rattle.std.proofs.lemmas.List.Sums.{length-filter}
 use Rattle.wdf_base.specs.Places.{is_returning_to}
@@ -12,7 +12,7 @@ use Rattle.wdf_model.proofs.Counts.{count_cons}
 use Rattle.wdf_maps.specs.Counts.{AreCounted, is_at}
 use Rattle.wdf_sets.specs.Members.{members}
 use Rattle.wdf_sets.specs.Nexts.{IsNext, NoneFrom}
-use Rattle.wdf_sets.proofs.Nexts.{next_also, none_also}
+use Rattle.wdf_sets.proofs.Nexts.{found_also}
 use Rattle.wdf_tally.specs.Counted.{is_counted}
 use Rattle.wdf_request.specs.Closing.{IsSetOf}
 use Rattle.wdf_request.specs.ForQueues.{due_from, has_due, has_returning, returning_requests, returning_to}
@@ -64,22 +64,15 @@ due_found R q = ids_as_many (λ r. is_at q (due_queue r)) R
 pub due_counted : (R : Requests) (counts : List ℕ) (q : ℕ) → AreCounted due_queue R.all counts → q < OBJECTS → entry 0 counts q ≡ length (due_from R q)
 due_counted R counts q counted within = counted.count q within ∙ due_found R q
 
--- the first queue from an id on of which there are some
-next_queue : (p q : ℕ → Bool) (from : ℕ) → ((id : ℕ) → id < OBJECTS → p id ≡ q id) → (found : Option ObjectId)
-    → MatchOption found (NoneFrom p from OBJECTS) (λ (o : ObjectId). IsNext p from OBJECTS o.0)
-    → MatchOption found (NoneFrom q from OBJECTS) (λ (o : ObjectId). IsNext q from OBJECTS o.0)
-next_queue p q from same None k = none_also p q from OBJECTS (λ id above below. same id below) k
-next_queue p q from same (Some o) k = next_also p q from OBJECTS (λ id above below. same id below) o.0 k
-
 pub next_returned : (R : Requests) (counts : List ℕ) (from : ℕ) (found : Option ObjectId) → AreCounted (λ (r : Request). returning_queue r.place) R.all counts
     → MatchOption found (NoneFrom (is_counted counts) from OBJECTS) (λ (o : ObjectId). IsNext (is_counted counts) from OBJECTS o.0)
     → MatchOption found (NoneFrom (has_returning R) from OBJECTS) (λ (o : ObjectId). IsNext (has_returning R) from OBJECTS o.0)
-next_returned R counts from found counted k = next_queue (is_counted counts) (has_returning R) from (λ id below. ap (nat_lt 0) (returning_counted R counts id counted below)) found k
+next_returned R counts from found counted k = found_also (is_counted counts) (has_returning R) from OBJECTS (λ id above below. ap (nat_lt 0) (returning_counted R counts id counted below)) (λ (o : ObjectId). o.0) found k
 
 pub next_cancelled : (R : Requests) (counts : List ℕ) (from : ℕ) (found : Option ObjectId) → AreCounted due_queue R.all counts
     → MatchOption found (NoneFrom (is_counted counts) from OBJECTS) (λ (o : ObjectId). IsNext (is_counted counts) from OBJECTS o.0)
     → MatchOption found (NoneFrom (has_due R) from OBJECTS) (λ (o : ObjectId). IsNext (has_due R) from OBJECTS o.0)
-next_cancelled R counts from found counted k = next_queue (is_counted counts) (has_due R) from (λ id below. ap (nat_lt 0) (due_counted R counts id counted below)) found k
+next_cancelled R counts from found counted k = found_also (is_counted counts) (has_due R) from OBJECTS (λ id above below. ap (nat_lt 0) (due_counted R counts id counted below)) (λ (o : ObjectId). o.0) found k
 
 -- no request belongs to no queue
 pub none_due : due_queue no_request ≡ None

@@ -1,5 +1,5 @@
 -- Entries in slots: what the entries by id are, and that slots stay apart, after a slot was written.
-use Rattle.std.proofs.Common.{◌≡◌, ◌≢◌, ◌⊎◌, inl, inr, ℕ, zero, suc, ◌+◌, ◌-◌, ◌<◌, ◌≤◌, nat_lt, true, false, List, [], ◌∷◌, ◌++◌, Option, Some, None, is_some, IsSome, count_by, map, length, refl, ap, sym, ◌∙◌, subst, arith, add-one, slice_set, slice_index_or, vec_capacity}
+use Rattle.std.proofs.Common.{◌≡◌, ◌≢◌, ◌⊎◌, inl, inr, ℕ, zero, suc, ◌+◌, ◌-◌, ◌<◌, ◌≤◌, nat_lt, true, false, List, [], ◌∷◌, Option, Some, None, is_some, IsSome, count_by, map, length, refl, ap, sym, ◌∙◌, subst, arith, add-one, slice_set, slice_index_or, vec_capacity}
 use Rattle.std.proofs.lemmas.Bool.{cases_eq, cases_lt}
 use Rattle.std.proofs.lemmas.Bool.Decides.{nat_tests}
 use Rattle.std.proofs.lemmas.List.{length-map}
@@ -7,27 +7,13 @@ use Rattle.std.proofs.lemmas.List.Sums.{count_by-le-length}
 use Rattle.slab.specs.Slab.{Slab, get, slab_len, Updates, with_value}
 use Rattle.slab.proofs.SlabLemmas.{Updates-with_value}
 use Rattle.wdf_model.specs.Tables.{entry, flag, put}
-use Rattle.wdf_model.proofs.Maps.{entry_past, entry_put_other, entry_put_same, put_short, put_within, set_as_it_was}
+use Rattle.wdf_model.proofs.Maps.{entry_past, entry_put_other, entry_put_same, put_put, put_short, put_within, set_as_it_was}
 use Rattle.wdf_model.proofs.Counts.{count_cons}
 use Rattle.wdf_maps.proofs.Counting.{count_put}
 use Rattle.wdf_slots.specs.InSlots.{AreApart, HaveSlots, in_slot, read_slot}
 use Rattle.wdf_slots.specs.declared.slots.Slots.TheInside.{Inside}
 
 module _ {T : Type 0} (blank : T) where
-  -- ---- writes of a list
-
-  -- the next id is just past the end
-  pub put_next : (xs : List T) (x : T) → put blank xs (length xs) x ≡ xs ++ x ∷ []
-  put_next [] x = refl
-  put_next (y ∷ xs) x = ap (λ ys. y ∷ ys) (put_next xs x)
-
-  -- of two writes at one id the later one counts
-  put_twice : (xs : List T) (id : ℕ) (x y : T) → put blank (put blank xs id x) id y ≡ put blank xs id y
-  put_twice [] zero x y = refl
-  put_twice [] (suc id) x y = ap (λ ys. blank ∷ ys) (put_twice [] id x y)
-  put_twice (z ∷ xs) zero x y = refl
-  put_twice (z ∷ xs) (suc id) x y = ap (λ ys. z ∷ ys) (put_twice xs id x y)
-
   -- ---- lists by id, read through the slots
 
   -- there are as many entries as ids came
@@ -298,5 +284,5 @@ module _ {T : Type 0} (blank : T) where
         ap (map (read_slot blank b.slots)) entries ∙ entries_inserted a.slot_of.items a.slots b.slots id key s h.apart none vacant u in
         entries_in_place b.slot_of.items b.slots id key s w apart its_new_key u.changed
         ∙ ap (λ xs. put blank xs id w) was
-        ∙ put_twice (map (read_slot blank a.slots) a.slot_of.items) id s w
+        ∙ put_put blank (map (read_slot blank a.slots) a.slot_of.items) id s w
         ∙ put_within blank (map (read_slot blank a.slots) a.slot_of.items) id w came

@@ -7,7 +7,8 @@ use crate::lines::isr_due;
 use crate::objects::{clean_ready, destroy_ready};
 use crate::sequences::{step_of, step_ready};
 use wdf_base::{Agent, Callback, Cpu, Handle, ObjectId, Rank, Stage, Step};
-use wdf_parts::{Parts, is_id};
+use wdf_maps::is_id;
+use wdf_parts::Parts;
 use wdf_plan_index::IndexedPlan;
 
 /// Whether EvtIoStop is due for a request: it is held from a power-managed queue, EvtIoStop hasn't

@@ -33,10 +33,10 @@ use Rattle.wdf_model.specs.parts.Cpus.{Cpus, frame_of, irql, is_empty_cpu, top}
 use Rattle.wdf_model.specs.parts.Locks.{Locks, held_by_call, holder, holds_by_call, scope_of_object}
 use Rattle.wdf_model.specs.parts.Requests.{Requests, mark_of, origin_of, place_of}
 use Rattle.wdf_model.specs.parts.Power.{Power, acknowledged, has_hardware}
-use Rattle.wdf_model.specs.parts.Targets.{Targets, is_forgotten}
+use Rattle.wdf_model.specs.parts.Targets.{Targets}
 use Rattle.wdf_model.specs.Ids.{cpu_of, frame_id}
 use Rattle.wdf_model.specs.rules.Script.{intent_of, line_of, statement_at}
-use Rattle.wdf_model.specs.State.{State, held_at, is_proper}
+use Rattle.wdf_model.specs.State.{State, is_proper, is_with_driver_by}
 use Rattle.wdf_model.specs.declared.deed.Deed.{Deed}
 use Rattle.wdf_model.specs.declared.deed.Deed.TheVariants.{GoOn, ParkFrame, UnparkFrame, CompleteRequest, CleanUp, EndLife, PassTick}
 use Rattle.wdf_model.specs.rules.Deeds.{do_deeds, counted}
@@ -61,7 +61,7 @@ seen_by plan T R targets P C L cpu f = record {
   place = place_of R;
   origin = origin_of R;
   mark = mark_of R;
-  held = λ r. held_at (is_forgotten targets r) (place_of R r);
+  held = λ r. is_with_driver_by R targets r;
   acknowledged = acknowledged P;
   holder = holder L;
   by_call = holds_by_call L f;

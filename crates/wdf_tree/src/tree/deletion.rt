@@ -3,7 +3,6 @@
 ghost use Rattle.std.specs.Prelude.{◌≡◌, ◌-◌, ◌<◌, ◌==◌, ◌||◌, IsTrue, false, length};
 ghost use Rattle.std.specs.List.{list_all};
 ghost use Rattle.wdf_base.specs.Lives.{is_asked, is_past_cleanup};
-ghost use Rattle.wdf_model.specs.Tables.{same_id};
 ghost use Rattle.wdf_model.specs.parts.Tree as tree;
 
 use super::Tree;
@@ -12,16 +11,7 @@ use super::gather::Subtree;
 use super::making::{DRIVER, counted};
 use super::turns::{note_around, note_cleaned};
 use wdf_base::{Life, ObjectId};
-
-/// Whether an id was found, and it is this one.
-pub(super) fn is_id(found: Option<u32>, id: u32) -> bool
-    ensures { result ≡ same_id found id }
-{
-    match found {
-        Some(other) => other == id,
-        None => false,
-    }
-}
+use wdf_maps::{is_id, object_at};
 
 impl Tree {
     /// Asks the deletion of one object, if it is live.
@@ -96,7 +86,7 @@ impl Tree {
         requires parent { IsTrue (is_asked (tree.life_of self.now (tree.parent_of self.now o.0))) }
         ensures { result ≡ list_all (λ x. is_past_cleanup (tree.life_of self.now x)) (tree.younger_siblings self.now o.0) }
     {
-        is_id(self.waiting.back(self.parent(o).0), o.0)
+        is_id(object_at(self.waiting.back(self.parent(o).0)), o)
     }
 
     /// Whether the cleanup of an object may come, by lives alone: its deletion was asked, no child

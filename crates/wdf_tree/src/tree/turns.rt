@@ -11,11 +11,10 @@ ghost use Rattle.wdf_sets.specs.Nexts.{IsNext, NoneFrom};
 ghost use Rattle.wdf_tree.specs.Turns.{AreNoted, is_counted_turn, is_turn as is_turn_by, turns_of};
 
 use super::Tree;
-use super::deletion::is_id;
 use super::leaving::first_in_both;
 use wdf_base::ObjectId;
 use wdf_ilist::Links;
-use wdf_maps::object_at;
+use wdf_maps::{is_id, object_at};
 use wdf_model::Node;
 use wdf_sets::IdSet;
 use wdf_slots::Slots;
@@ -28,7 +27,8 @@ fn is_turn(nodes: &Slots<Node>, waiting: &Links, o: ObjectId) -> bool
     let node = nodes.get(o.0);
     node.life.is_asked()
         && waiting.is_empty(o.0)
-        && (!nodes.get(node.parent.0).life.is_asked() || is_id(waiting.back(node.parent.0), o.0))
+        && (!nodes.get(node.parent.0).life.is_asked()
+            || is_id(object_at(waiting.back(node.parent.0)), o))
 }
 
 /// Notes whether an object's turn has come.

@@ -1,7 +1,7 @@
 -- The next id is just past the end.
 use Rattle.std.proofs.Common.{ap, ◌∙◌}
 use Rattle.wdf_model.specs.Tables.{put}
-use Rattle.wdf_slots.proofs.Apart.{put_next}
+use Rattle.wdf_model.proofs.Maps.{put_next}
 use Rattle.wdf_slots.proofs.slots.Slots.push.Goals as goal
 
 pub returns : goal.returns

@@ -19,5 +19,5 @@ returns c =
     let kin : list_at c.self.inside.waiting.lists parent ≡ places (is_kin is_waiting parent) 0 c.args.self.now.nodes
     = c.self.invariant.kept.waiting_kin.kin parent (omega arith) ∙ ap (places (is_kin is_waiting parent) 0) view in
     c.is_id.ensures
-    ∙ ap (λ found. same_id found c.args.o.0) (c.back.ensures ∙ ap (λ q. last_of (list_at c.self.inside.waiting.lists q)) c.parent.ensures ∙ ap last_of kin)
+    ∙ ap (λ found. same_id found c.args.o.0) (c.object_at.ensures ∙ c.back.ensures ∙ ap (λ q. last_of (list_at c.self.inside.waiting.lists q)) c.parent.ensures ∙ ap last_of kin)
     ∙ last_waiting c.args.self.now c.args.o.0 there c.requires.asked
