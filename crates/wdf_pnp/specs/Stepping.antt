@@ -1,8 +1,8 @@
 -- The devices that have a step left, as a set.
-use Rattle.std.specs.Prelude.{ℕ, ◌≡◌, ◌≤◌, ◌==◌, nat_lt, Bool, List, length}
+use Rattle.std.specs.Prelude.{ℕ, ◌==◌, nat_lt, Bool, length}
 use Rattle.std.specs.List.{list_all}
 use Rattle.wdf_model.specs.parts.Pnp.{Pnp, Sequence, steps_left}
-use Rattle.wdf_sets.specs.Members.{is_in}
+use Rattle.wdf_sets.specs.SetOf.{IsSetOf}
 use Rattle.wdf_pnp.specs.declared.pnp.Pnp.TheInside.{Inside}
 
 -- whether device d has a step left
@@ -13,11 +13,6 @@ has_steps P d = nat_lt 0 (length (steps_left P d))
 abbrev pub none_stepping : Pnp → Bool
 none_stepping P = list_all (λ (q : Sequence). length q.left == 0) P.devices
 
--- A set has a bit for each entry of the table of devices, and its members are those that have a step left.
-pub record HoldsStepping (devices : List Sequence) (bits : List Bool) : Type 0 where
-  pub room : length devices ≤ length bits
-  pub same : (d : ℕ) → is_in d bits ≡ has_steps (record { devices = devices }) d
-
 -- The set says of each device whether it has a step left.
 abbrev pub IsStepping : Inside → Type 0
-IsStepping p = HoldsStepping p.devices.items p.stepping
+IsStepping p = IsSetOf (has_steps (record { devices = p.devices.items })) (length p.devices.items) p.stepping
