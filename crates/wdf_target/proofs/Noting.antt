@@ -1,58 +1,38 @@
--- The set of the targets that have a request, after the acts, and what it says of all targets.
-use Rattle.std.proofs.Common.{◌≡◌, ◌≢◌, ◌⊎◌, inl, inr, ℕ, zero, suc, ◌+◌, ◌<◌, ◌≤◌, ◌==◌, nat_lt, Bool, true, false, ◌&&◌, List, [], ◌∷◌, length, replicate, slice_set, slice_get, get_or-set_same, get_or-set_other, length-set, ltb-true, ltb-false, Some, None, MatchOption, refl, sym, ap, ◌∙◌, arith}
-use Rattle.std.specs.List.{list_all}
-use Rattle.std.proofs.lemmas.Bool.{cases_eq, eqb-true}
-use Rattle.std.proofs.lemmas.Bool.Decides.{nat_tests}
-use Rattle.std.proofs.lemmas.List.{length-replicate, nil_from_length}
-use Rattle.std.proofs.lemmas.List.Folds.{list_all_at}
+-- The set of the targets that are done with a request that comes back, after the acts; and what it says of completion routines.
+use Rattle.std.proofs.Common.{◌≡◌, ℕ, zero, suc, ◌+◌, ◌<◌, ◌≤◌, ◌==◌, Bool, true, false, not, ◌||◌, List, [], ◌∷◌, length, map, replicate, slice_set, slice_get, Option, Some, None, is_some, MatchOption, refl, sym, ap, ◌∙◌, arith}
+use Rattle.std.specs.Prelude.{option_and_then}
+use Rattle.std.specs.List.{list_all, list_any}
+use Rattle.std.proofs.lemmas.Bool.{eq-eqb, eqb-true}
 use Rattle.std.proofs.lemmas.List.FromFn.{length-map-range_with_len}
+use Rattle.std.proofs.lemmas.Option.{get_or_from_slice_get}
+use Rattle.wdf_base.specs.declared.declared.TargetInfo.{TargetInfo}
+use Rattle.wdf_base.specs.declared.ids.ObjectId.{ObjectId}
 use Rattle.wdf_base.specs.declared.plan.Plan.{Plan}
 use Rattle.wdf_model.specs.Tables.{entry}
 use Rattle.wdf_model.specs.Plans.{declared_ids, target_of}
-use Rattle.wdf_model.specs.parts.Targets.{Target, Targets, no_target, opening_target, opening_targets, the_target}
-use Rattle.wdf_model.proofs.Maps.{entry_past, entry_set_other}
-use Rattle.wdf_sets.specs.Members.{is_in, members, rank}
+use Rattle.wdf_model.specs.declared.entries.Sending.{Sending}
+use Rattle.wdf_model.specs.parts.Targets.{Target, Targets, no_target, opening_target, opening_targets, routine_outcome, the_target}
+use Rattle.wdf_maps.specs.Places.{entry_of}
+use Rattle.wdf_maps.proofs.Passing.{any_among}
+use Rattle.wdf_sets.specs.Members.{is_in, members}
 use Rattle.wdf_sets.specs.Nexts.{IsNext, NoneFrom}
-use Rattle.wdf_sets.proofs.Nexts.{none_also, next_also, none_next, next_is}
-use Rattle.wdf_target.specs.Laden.{AreNoted, has_any, is_laden, none_laden}
-use Rattle.wdf_target.proofs.Kept.{nothing_sent}
+use Rattle.wdf_sets.proofs.Nexts.{found_also}
+use Rattle.wdf_sets.proofs.SetOf.{each_passes, empty_set, entry_kept, entry_written, no_member_is, none_made}
+use Rattle.wdf_target.specs.Finished.{finished_at, has_done, has_finished, is_done_with, is_finished, none_finished, done_at, passes_if}
+use Rattle.wdf_target.specs.Target.{request_id}
+use Rattle.wdf_target.specs.Targets.{AreNoted, IsKept, is_with}
+use Rattle.wdf_target.proofs.Kept.{found_there}
 
--- ---- one target changes
+-- ---- the acts
 
-pub noted_moved : (ts : List Target) (bits : List Bool) (q : ℕ) (new : Target) → AreNoted ts bits → q < length ts → AreNoted (slice_set ts q new) (slice_set bits q (has_any new))
-noted_moved ts bits q new n within = record {
-  room = let room = n.room in let a = length-set ts q new in let b = length-set bits q (has_any new) in omega arith;
-  same = λ t. by t (cases_eq t q);
-}
-  where
-    by : (t : ℕ) → (t ≡ q) ⊎ (t ≢ q) → is_in t (slice_set bits q (has_any new)) ≡ has_any (entry no_target (slice_set ts q new) t)
-    by t (inl same) =
-        let room = n.room in
-        let here : is_in q (slice_set bits q (has_any new)) ≡ has_any (entry no_target (slice_set ts q new) q) =
-        get_or-set_same bits q (has_any new) false (omega arith) ∙ ap has_any (sym (get_or-set_same ts q new no_target within)) in
-        rw same here
-    by t (inr other) = get_or-set_other bits q t (has_any new) false other ∙ (n.same t ∙ ap has_any (sym (entry_set_other no_target ts q t new other)))
+-- one target changes
+pub noted_moved : (ts : List Target) (bits : List Bool) (q : ℕ) (new : Target) → AreNoted ts bits → q < length ts → AreNoted (slice_set ts q new) (slice_set bits q (has_done new))
+noted_moved ts bits q new n within = entry_written no_target has_done ts bits q new n within
 
--- a target that has what it had
+-- a target has what it had
 pub noted_same : (ts : List Target) (bits : List Bool) (q : ℕ) (new : Target) → AreNoted ts bits → q < length ts → new.sent ≡ (entry no_target ts q).sent → AreNoted (slice_set ts q new) bits
-noted_same ts bits q new n within e = record {
-  room = let room = n.room in let a = length-set ts q new in omega arith;
-  same = λ t. by t (cases_eq t q);
-}
-  where
-    by : (t : ℕ) → (t ≡ q) ⊎ (t ≢ q) → is_in t bits ≡ has_any (entry no_target (slice_set ts q new) t)
-    by t (inl same) =
-        let here : is_in q bits ≡ has_any (entry no_target (slice_set ts q new) q) =
-        n.same q ∙ (ap (λ xs. nat_lt 0 (length xs)) (sym e) ∙ ap has_any (sym (get_or-set_same ts q new no_target within))) in
-        rw same here
-    by t (inr other) = n.same t ∙ ap has_any (sym (entry_set_other no_target ts q t new other))
-
--- ---- the opening
-
-none_in : (n id : ℕ) → is_in id (replicate n false) ≡ false
-none_in zero id = refl
-none_in (suc n) zero = refl
-none_in (suc n) (suc id) = none_in n id
+noted_same ts bits q new n within e =
+    entry_kept no_target has_done ts bits q new n within (ap (λ xs. list_any (λ (s : Sending). is_some (option_and_then routine_outcome (entry_of request_id xs s.request.0))) xs) e)
 
 -- how many targets there are at the opening
 pub opened_len : (plan : Plan) (ts : List Target) → ts ≡ (opening_targets plan).targets → length ts ≡ 1 + length plan.declared
@@ -61,74 +41,93 @@ opened_len plan ts opened =
     let same = ap length opened in
     omega arith
 
+nothing_done : (info : Option TargetInfo) → has_done (opening_target info) ≡ false
+nothing_done None = refl
+nothing_done (Some i) = refl
+
 -- at the opening no target has a request, and the empty set is right
 pub noted_opened : (plan : Plan) (ts : List Target) (bits : List Bool) (n : ℕ) → ts ≡ (opening_targets plan).targets → length ts ≤ n → bits ≡ replicate n false → AreNoted ts bits
-noted_opened plan ts bits n opened room e = rw e (record {
-  room = let long = length-replicate n false in omega arith;
-  same = λ t. none_in n t ∙ sym (ap (λ us. has_any (entry no_target us t)) opened ∙ ap (λ xs. nat_lt 0 (length xs)) (nothing_sent plan (declared_ids plan) t));
-})
+noted_opened plan ts bits n opened room e =
+    empty_set _ (length ts) n bits e room (λ t. ap (λ us. has_done (entry no_target us t)) opened ∙ none_made no_target has_done (λ id. opening_target (target_of plan id)) refl (λ id. nothing_done (target_of plan id)) (declared_ids plan) t)
 
--- ---- what the set says
+-- ---- what a target is done with, by all targets
 
-pub next_noted : (T : Targets) (ts : List Target) (bits : List Bool) (from end : ℕ) → record { targets = ts } ≡ T → AreNoted ts bits
-    → (found : _) → MatchOption found (NoneFrom (λ id. is_in id bits) from end) (λ id. IsNext (λ x. is_in x bits) from end id)
-    → MatchOption found (NoneFrom (is_laden T) from end) (λ id. IsNext (is_laden T) from end id)
-next_noted T ts bits from end e n None h = rw (← e) (none_also (λ id. is_in id bits) (λ t. has_any (entry no_target ts t)) from end (λ id above below. n.same id) h)
-next_noted T ts bits from end e n (Some id) h = rw (← e) (next_also (λ x. is_in x bits) (λ t. has_any (entry no_target ts t)) from end (λ x above below. n.same x) id h)
+there_first : (x s : Sending) (xs : List Sending) (b : Bool) → (x.request.0 == s.request.0) ≡ b → is_some (entry_of request_id xs s.request.0) ≡ true → is_some (entry_of request_id (x ∷ xs) s.request.0) ≡ true
+there_first x s xs true e rest = rw e refl
+there_first x s xs false e rest = rw e rest
 
-no_items : (n : ℕ) → nat_lt 0 n ≡ false → (n == 0) ≡ true
-no_items n h = grind (arith, nat_tests)
+-- there is an entry of what is at a place
+is_there : (xs : List Sending) (k : ℕ) (s : Sending) → slice_get xs k ≡ Some s → is_some (entry_of request_id xs s.request.0) ≡ true
+is_there [] k s at = absurd (let z : ⊥ = cc in z)
+is_there (x ∷ xs) zero s at =
+    let same : x ≡ s = cc in
+    let here : (x.request.0 == s.request.0) ≡ true = ap (λ y. y.request.0 == s.request.0) same ∙ eq-eqb s.request.0 s.request.0 refl in
+    rw here refl
+is_there (x ∷ xs) (suc k) s at = there_first x s xs (x.request.0 == s.request.0) refl (is_there xs k s at)
 
-some_items : (n : ℕ) → nat_lt 0 n ≡ true → (n == 0) ≡ false
-some_items n h = grind (arith, nat_tests)
+module _ (ts : List Target) (hs : List (Option ObjectId)) (kept : IsKept ts hs) where
+  abbrev whole : Targets
+  whole = record { targets = ts }
 
-more_items : (n : ℕ) → (suc n == 0) ≡ false
-more_items n = grind (arith, nat_tests)
+  finished_by : (q : ℕ) (s : Sending) (o : Option ObjectId) → entry None hs s.request.0 ≡ o → is_with q o ≡ true → is_finished whole s ≡ is_done_with (entry no_target ts q) s.request.0
+  finished_by q s None e h = absurd (let z : ⊥ = cc in z)
+  finished_by q s (Some o) e h =
+      let same : o.0 ≡ q = eqb-true o.0 q h in
+      ap (λ x. is_some (option_and_then routine_outcome x)) (found_there ts hs s.request.0 o kept e) ∙ ap (λ t. is_done_with (entry no_target ts t) s.request.0) same
 
-all_unladen : (ts : List Target) → ((t : ℕ) → has_any (entry no_target ts t) ≡ false) → list_all (λ t. length t.sent == 0) ts ≡ true
-all_unladen [] h = refl
-all_unladen (x ∷ ts) h =
-    let first : (length x.sent == 0) ≡ true = no_items (length x.sent) (h 0) in
-    let rest : list_all (λ t. length t.sent == 0) ts ≡ true = all_unladen ts (λ t. h (suc t)) in
-    rw first rest
+  -- a completion routine is due exactly where the target that has its request is done with it
+  finished_there : (q k : ℕ) (s : Sending) → slice_get (entry no_target ts q).sent k ≡ Some s → is_finished whole s ≡ is_done_with (entry no_target ts q) s.request.0
+  finished_there q k s at =
+      finished_by q s (entry None hs s.request.0) refl (sym (kept.kept q s.request.0) ∙ is_there (entry no_target ts q).sent k s at)
 
-laden_within : (ts : List Target) (t : ℕ) → has_any (entry no_target ts t) ≡ true → t < length ts
-laden_within ts t h = by (nat_lt t (length ts)) refl
+  any_finished : (q : ℕ) → list_any (is_finished whole) (entry no_target ts q).sent ≡ has_done (entry no_target ts q)
+  any_finished q = any_among (is_finished whole) (λ (s : Sending). is_done_with (entry no_target ts q) s.request.0) (entry no_target ts q).sent (finished_there q)
+
+  pub place_finished : (q k : ℕ) → done_at (entry no_target ts q) k ≡ finished_at whole q k
+  place_finished q k = by (slice_get (entry no_target ts q).sent k) refl
+    where
+      by : (found : Option Sending) → slice_get (entry no_target ts q).sent k ≡ found → passes_if (λ (s : Sending). is_done_with (entry no_target ts q) s.request.0) (slice_get (entry no_target ts q).sent k) ≡ passes_if (is_finished whole) (slice_get (entry no_target ts q).sent k)
+      by None at = rw at refl
+      by (Some s) at = rw at (sym (finished_there q k s at))
+
+  pub next_noted : (bits : List Bool) (from end : ℕ) → AreNoted ts bits
+      → (found : Option ℕ) → MatchOption found (NoneFrom (λ id. is_in id bits) from end) (λ id. IsNext (λ x. is_in x bits) from end id)
+      → MatchOption found (NoneFrom (has_finished whole) from end) (λ id. IsNext (has_finished whole) from end id)
+  next_noted bits from end n found = found_also (λ id. is_in id bits) (has_finished whole) from end (λ id above below. n.same id ∙ sym (any_finished id)) (λ id. id) found
+
+  all_alike : (us : List Target) → ((k : ℕ) (x : Target) → slice_get us k ≡ Some x → list_any (is_finished whole) x.sent ≡ has_done x)
+      → list_all (λ x. not (has_done x)) us ≡ list_all (λ x. not (list_any (is_finished whole) x.sent)) us
+  all_alike [] same = refl
+  all_alike (x ∷ us) same =
+      let first : list_any (is_finished whole) x.sent ≡ has_done x = same 0 x refl in
+      let rest = all_alike us (λ k y at. same (suc k) y at) in
+      rw (first, rest) refl
+
+  -- the set has no member exactly where no completion routine is due
+  pub none_noted : (bits : List Bool) → AreNoted ts bits → (length (members bits) == 0) ≡ none_finished whole
+  none_noted bits n =
+      no_member_is no_target has_done (λ x. not (has_done x)) ts (length ts) bits (λ x. refl) refl n
+      ∙ all_alike ts (λ k x at. let same : entry no_target ts k ≡ x = get_or_from_slice_get ts k x no_target at in rw (← same) (any_finished k))
+
+-- ---- what the definitions say of one place
+
+none_of : (p : Sending → Bool) (xs : List Sending) → list_any p xs ≡ false → (k : ℕ) → passes_if p (slice_get xs k) ≡ false
+none_of p [] h k = refl
+none_of p (x ∷ xs) h k = by (p x) refl h k (none_of p xs)
   where
-    by : (b : Bool) → nat_lt t (length ts) ≡ b → t < length ts
-    by true l = ltb-true t (length ts) l
-    by false l =
-        let past : entry no_target ts t ≡ no_target = entry_past no_target ts t (omega (arith, ltb-false t (length ts) l)) in
-        let none : has_any no_target ≡ true = ap has_any (sym past) ∙ h in
-        absurd (let z : ⊥ = cc in z)
+    by : (b : Bool) → p x ≡ b → (b || list_any p xs) ≡ false → (k : ℕ) → (list_any p xs ≡ false → (j : ℕ) → passes_if p (slice_get xs j) ≡ false) → passes_if p (slice_get (x ∷ xs) k) ≡ false
+    by true e h k rest = absurd (let z : ⊥ = cc in z)
+    by false e h zero rest = e
+    by false e h (suc k) rest = rest h k
 
-one_laden : (ts : List Target) (t : ℕ) → has_any (entry no_target ts t) ≡ true → list_all (λ t. length t.sent == 0) ts ≡ false
-one_laden ts t h = list_all_at (λ t. length t.sent == 0) ts t no_target (laden_within ts t h) (some_items (length (entry no_target ts t).sent) h)
+-- where a target has no request whose completion routine is due, none is at any place
+pub unfinished_at : (T : Targets) (t k : ℕ) → has_finished T t ≡ false → finished_at T t k ≡ false
+unfinished_at T t k h = none_of (is_finished T) (the_target T t).sent h k
 
-pub none_noted : (T : Targets) (ts : List Target) (bits : List Bool) → record { targets = ts } ≡ T → AreNoted ts bits → (length (members bits) == 0) ≡ none_laden T
-none_noted T ts bits e n = rw (← e) (by (members bits) refl)
+-- where no target has one, this one hasn't
+pub unfinished : (T : Targets) (t : ℕ) → none_finished T ≡ true → has_finished T t ≡ false
+unfinished T t h = by (has_finished T t) (each_passes no_target (λ x. not (list_any (is_finished T) x.sent)) refl T.targets t h)
   where
-    by : (xs : List ℕ) → members bits ≡ xs → (length xs == 0) ≡ list_all (λ t. length t.sent == 0) ts
-    by [] m =
-        let none : None ≡ slice_get (members bits) (rank 0 bits) = ap (λ xs. slice_get xs 0) (sym m) in
-        sym (all_unladen ts (λ t. sym (n.same t) ∙ none_next bits 0 (suc t) none t (omega arith) (omega arith)))
-    by (x ∷ xs) m =
-        let first : Some x ≡ slice_get (members bits) (rank 0 bits) = ap (λ xs. slice_get xs 0) (sym m) in
-        let next = next_is bits 0 (suc x) x first (omega arith) in
-        more_items (length xs) ∙ sym (one_laden ts x (sym (n.same x) ∙ next.passes))
-
--- where no target has a request, none has one
-pub unladen : (T : Targets) (t : ℕ) → none_laden T ≡ true → (the_target T t).sent ≡ []
-unladen T t h = nil_from_length (the_target T t).sent (unladen_in T.targets t h)
-  where
-    no_length : (n : ℕ) → (n == 0) ≡ true → n ≡ 0
-    no_length n e = eqb-true n 0 e
-
-    left : (a b : Bool) → (a && b) ≡ true → (a ≡ true) × (b ≡ true)
-    left true b e = (refl, e)
-    left false b e = absurd (let z : ⊥ = cc in z)
-
-    unladen_in : (ts : List Target) (t : ℕ) → list_all (λ t. length t.sent == 0) ts ≡ true → length (entry no_target ts t).sent ≡ 0
-    unladen_in [] t h = refl
-    unladen_in (x ∷ ts) zero h = no_length (length x.sent) (left (length x.sent == 0) (list_all (λ t. length t.sent == 0) ts) h).0
-    unladen_in (x ∷ ts) (suc t) h = unladen_in ts t (left (length x.sent == 0) (list_all (λ t. length t.sent == 0) ts) h).1
+    by : (b : Bool) → not b ≡ true → b ≡ false
+    by true e = absurd (let z : ⊥ = cc in z)
+    by false e = refl

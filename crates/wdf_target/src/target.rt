@@ -172,11 +172,11 @@ impl Target {
         if from >= self.sent.len() {
             return None;
         }
-        let least = self.sent.at(from).request;
-        let place = self.done.before(least.0);
-        if place >= self.done.len() {
+        let lesser = self.done.before(self.sent.at(from).request.0);
+        if lesser >= self.done.len() {
             return None;
         }
-        Some(self.sent.before(self.done.at(place).request.0))
+        let place = self.sent.before(self.done.at(lesser).request.0);
+        Some(place)
     }
 }

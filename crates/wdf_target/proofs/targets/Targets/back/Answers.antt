@@ -24,7 +24,7 @@ invariant_of-self c =
     record {
       kept = kept_moved c.self.inside.targets.items c.self.inside.holders.items _ c.in-Some.t.0 c.args.r.0 c.remove.new.self None c.self.invariant.kept moves;
       room = c.self.invariant.room;
-      noted = rw c.note.ensures (noted_moved c.self.inside.targets.items c.self.inside.laden c.in-Some.t.0 c.remove.new.self c.self.invariant.noted (target_within c.self.inside.targets.items c.self.inside.holders.items c.args.r.0 c.in-Some.t c.self.invariant.kept there));
+      noted = rw c.note.ensures (noted_moved c.self.inside.targets.items c.self.inside.with_done c.in-Some.t.0 c.remove.new.self c.self.invariant.noted (target_within c.self.inside.targets.items c.self.inside.holders.items c.args.r.0 c.in-Some.t c.self.invariant.kept there));
     }
 
 pub returns-clause-done : goal.returns-clause-done

@@ -19,7 +19,7 @@ invariant_of-self c =
     record {
       kept = rw c.clear.ensures.items (kept_at_first c.args.plan.now c.begin_all.new.all.items c.begin_all.ensures);
       room = rw c.clear.ensures.capacity c.self.invariant.room;
-      noted = noted_opened c.args.plan.now c.begin_all.new.all.items c.clear-2.new.self (length c.self.inside.laden) c.begin_all.ensures (omega (arith, c.requires.ids, c.self.invariant.noted.room)) c.clear-2.ensures;
+      noted = noted_opened c.args.plan.now c.begin_all.new.all.items c.clear-2.new.self (length c.self.inside.with_done) c.begin_all.ensures (omega (arith, c.requires.ids, c.self.invariant.noted.room)) c.clear-2.ensures;
     }
 
 pub returns : goal.returns

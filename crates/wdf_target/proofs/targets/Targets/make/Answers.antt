@@ -8,5 +8,5 @@ pub invariant_of-result : goal.invariant_of-result
 invariant_of-result c = record {
   kept = rw c.in_ok-holders.ensures.items (kept_at_first c.args.plan.now c.in_ok-targets.targets.items c.in_ok-targets.ensures);
   room = omega (arith, c.in_ok-holders.ensures.exact);
-  noted = noted_opened c.args.plan.now c.in_ok-targets.targets.items _ (4096 * div_ceil c.len.result 4096) c.in_ok-targets.ensures (omega (arith, c.len.ensures)) c.in_ok-laden.ensures;
+  noted = noted_opened c.args.plan.now c.in_ok-targets.targets.items _ (4096 * div_ceil c.len.result 4096) c.in_ok-targets.ensures (omega (arith, c.len.ensures)) c.in_ok-with_done.ensures;
 }

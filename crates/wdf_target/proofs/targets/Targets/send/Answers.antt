@@ -26,7 +26,7 @@ invariant_of-self c =
     record {
       kept = rw c.put_at.ensures.entries (kept_moved c.self.inside.targets.items c.self.inside.holders.items _ c.args.t.0 c.args.r.0 c.add.new.self _ c.self.invariant.kept moves);
       room = omega (arith, c.put_at.ensures.room, c.self.invariant.room);
-      noted = rw c.note.ensures (noted_moved c.self.inside.targets.items c.self.inside.laden c.args.t.0 c.add.new.self c.self.invariant.noted within);
+      noted = rw c.note.ensures (noted_moved c.self.inside.targets.items c.self.inside.with_done c.args.t.0 c.add.new.self c.self.invariant.noted within);
     }
 
 pub returns-clause-done : goal.returns-clause-done
