@@ -1,8 +1,9 @@
 -- Where the callbacks of a rank rest on a processor, nothing may come of them.
-use Rattle.std.proofs.Common.{Bool, true, false, not, ◌==◌, ◌&&◌, ◌||◌, ℕ, ◌≡◌, List, [], ◌∷◌, find, length, Some, None, refl, ap, ◌∙◌, arith}
+use Rattle.std.proofs.Common.{Bool, true, false, not, ◌==◌, ◌&&◌, ◌||◌, ℕ, ◌≡◌, List, [], ◌∷◌, find, length, slice_get, Option, Some, None, refl, ap, ◌∙◌, arith}
 use Rattle.std.specs.Prelude.{nat_le}
 use Rattle.std.proofs.lemmas.Bool.{eqb-true}
 use Rattle.wdf_base.specs.Meaning.{Meaning}
+use Rattle.wdf_base.specs.Places.{is_sent_to}
 use Rattle.wdf_base.specs.Same.{same_option, same_step}
 use Rattle.wdf_base.specs.declared.event.Stage.TheVariants as stage
 use Rattle.wdf_base.specs.declared.event.Step.TheVariants as step
@@ -12,21 +13,23 @@ use Rattle.wdf_base.specs.declared.rank.Rank.TheVariants as rank
 use Rattle.wdf_model.proofs.Tests.{left_fails, right_fails}
 use Rattle.wdf_model.specs.Plans.{is_managed}
 use Rattle.wdf_model.specs.State.{State, is_held_from}
+use Rattle.wdf_model.specs.declared.entries.Sending.{Sending}
 use Rattle.wdf_model.specs.declared.enums.Group.TheVariants as group
 use Rattle.wdf_model.specs.Tables.{first_of_list}
 use Rattle.wdf_model.specs.parts.Pnp.{Pnp, next_step}
 use Rattle.wdf_model.specs.parts.Power.{resume_due, stop_was_asked}
+use Rattle.wdf_model.specs.parts.Requests.{place_of}
 use Rattle.wdf_model.specs.parts.Targets.{the_target}
 use Rattle.wdf_model.specs.parts.Tree.{nearest_device}
 use Rattle.wdf_model.specs.rules.Starts.{level_fits}
 use Rattle.wdf_pnp.specs.Stepping.{none_stepping}
 use Rattle.wdf_pnp.proofs.Stepping.{at_rest}
-use Rattle.wdf_target.specs.Laden.{none_laden}
-use Rattle.wdf_target.proofs.Noting.{unladen}
+use Rattle.wdf_target.specs.Finished.{finished_at, has_finished, is_finished, none_finished, passes_if}
+use Rattle.wdf_target.proofs.Noting.{unfinished, unfinished_at}
 use Rattle.wdf_offers.specs.declared.for_requests.Herd.{Herd}
 use Rattle.wdf_offers.specs.declared.for_requests.Herd.TheVariants as herd
 use Rattle.wdf_offers.specs.ForRequests.{IsExact, can_be, herd_of, is_counted, is_due_for, rank_of, whole}
-use Rattle.wdf_offers.specs.Idle.{is_due_at, settles_next}
+use Rattle.wdf_offers.specs.Idle.{is_due_at, is_sending_due, settles_next}
 use Rattle.wdf_offers.specs.Leaving.{IsSettled}
 use Rattle.wdf_offers.specs.Resting.{none_counted, none_due}
 use Rattle.wdf_offers.specs.Search.{offered_from}
@@ -34,7 +37,7 @@ use Rattle.wdf_offers.proofs.Cancels.{not_on}
 use Rattle.wdf_offers.proofs.HerdWalk.{none_of}
 use Rattle.wdf_offers.proofs.Herds.{exact_returns, exact_stops, whole_part, whole_test}
 use Rattle.wdf_offers.proofs.NotOffered.{for_low, not_due, too_high_for}
-use Rattle.wdf_offers.proofs.Places.{nothing_there, past}
+use Rattle.wdf_offers.proofs.Places.{nothing_there}
 
 pub none_among : (p : ℕ → Bool) (xs : List ℕ) → length xs ≡ 0 → None ≡ find p xs
 none_among p [] h = refl
@@ -47,6 +50,20 @@ fails_with false w part h = refl
 -- where no device has a step left, none has one that says that its queues have settled
 settles_none : (P : Pnp) (d : ℕ) → none_stepping P ≡ true → same_option same_step (next_step P d) (Some (step.Pass stage.Settled None)) ≡ false
 settles_none P d h = ap (λ ss. same_option same_step (first_of_list ss) (Some (step.Pass stage.Settled None))) (at_rest P d h)
+
+-- where a target isn't done with a request, or that is forgotten, its completion routine isn't due
+module _ {A : Type 0} (plan : Plan) (S : State A) (t : ℕ) where
+  undue_by : (s : Option Sending) → passes_if (is_finished S.targets) s ≡ false → is_sending_due plan S t s ≡ false
+  undue_by None h = refl
+  undue_by (Some s) h = right_fails (is_sent_to t (place_of S.requests s.request.0)) (is_finished S.targets s) h
+
+  pub undue_at : (k : ℕ) → finished_at S.targets t k ≡ false → is_due_at plan S rank.Completion t k ≡ false
+  undue_at k h = undue_by (slice_get (the_target S.targets t).sent k) h
+
+-- so nothing may come of the completion routines of a target that is done with none that comes back
+pub unfinished_off : {A : Type 0} (plan : Plan) (m : Meaning A) (S : State A) (cpu t : ℕ) → has_finished S.targets t ≡ false → offered_from plan m S (group.StartsFor cpu rank.Completion t) 0 ≡ []
+unfinished_off plan m S cpu t h =
+    nothing_there plan m S (group.StartsFor cpu rank.Completion t) (λ k. not_due plan m S cpu rank.Completion t k (undue_at plan S t k (unfinished_at S.targets t k h)))
 
 module _ {A : Type 0} (plan : Plan) (m : Meaning A) (S : State A) (settled : IsSettled plan S) where
   module _ (h : Herd) (none : length (whole h S) ≡ 0) where
@@ -90,15 +107,9 @@ module _ {A : Type 0} (plan : Plan) (m : Meaning A) (S : State A) (settled : IsS
     stops_off true still a b e q = counted_off rank.Stop a q
     stops_off false still a b e q = still_off (b ∙ e) q
 
-    -- where no target has a request, no group of completion routines has a place
-    unladen_off : none_laden S.targets ≡ true → (t : ℕ) → offered_from plan m S (group.StartsFor cpu rank.Completion t) 0 ≡ []
-    unladen_off e t =
-        let none : length (the_target S.targets t).sent ≡ 0 = ap length (unladen S.targets t e) in
-        past plan m S (group.StartsFor cpu rank.Completion t) 0 (omega arith)
-
     -- where the callbacks of a rank are due for no request, nothing may come of them
     pub undue_off : (r : Rank) → none_due S r ≡ true → (o : ℕ) → offered_from plan m S (group.StartsFor cpu r o) 0 ≡ []
-    undue_off rank.Completion e o = unladen_off e o
+    undue_off rank.Completion e o = unfinished_off plan m S cpu o (unfinished S.targets o e)
     undue_off rank.Stop e o = stops_off (none_counted S (herd_of rank.Stop)) (none_stepping S.pnp) refl refl e o
     undue_off r e o = counted_off r e o
 

@@ -124,7 +124,7 @@ dead S o h =
     (both_left (is_asked (life_of S.tree o) && list_all (λ x. is_past_cleanup (life_of S.tree x)) (children S.tree o))
     (not (is_asked (life_of S.tree (parent_of S.tree o))) || list_all (λ x. is_past_cleanup (life_of S.tree x)) (younger_siblings S.tree o)) h))
 
-unbusy : {A : Type 0} (l : Leaving) (S : State A) → DeletedSettled S → (o : ℕ) → is_busy l S o ≡ false → is_kept l S o ≡ false
+pub unbusy : {A : Type 0} (l : Leaving) (S : State A) → DeletedSettled S → (o : ℕ) → is_busy l S o ≡ false → is_kept l S o ≡ false
 unbusy leaving.Cleanup S h o e =
     let both = or_parts (is_occupied S.cpus o || is_awaited S.cpus o) (is_locked S.locks o || is_out S.requests o) e in
     let framed = or_parts (is_occupied S.cpus o) (is_awaited S.cpus o) both.0 in
@@ -178,36 +178,10 @@ module _ (p q : ℕ → Bool) (from end : ℕ) where
   lesser_next (Some a) None k n = let within = k.within in left_next a.0 k (λ y above below. n y above (omega arith))
   lesser_next (Some a) (Some b) k n = lesser_by a b (nat_le a.0 b.0) refl k n
 
--- ---- the first that is kept back
+-- ---- what is kept back fits, and is busy
 
-module _ {A : Type 0} (l : Leaving) (S : State A) (settled : DeletedSettled S) (from at end : ℕ) (room : end ≤ OBJECTS) (none : NoneFrom (is_kept l S) from at) where
-  -- nor at any id from one on up to another
-  further : (to : ℕ) → ((x : ℕ) → at ≤ x → x < to → is_busy l S x ≡ false) → NoneFrom (is_kept l S) from to
-  further to off x above below = by (cases_lt x at)
-    where
-      by : (x < at) ⊎ (at ≤ x) → is_kept l S x ≡ false
-      by (inl before) = none x above before
-      by (inr after) = unbusy l S settled x (off x after below)
-
-  pub none_left : NoneFrom (is_busy l S) at OBJECTS → NoneFrom (is_kept l S) from end
-  none_left h = further end (λ x after below. h x after (omega arith))
-
-  module _ (x : ℕ) (h : IsNext (is_busy l S) at OBJECTS x) where
-    pub kept_after : at ≤ x
-    kept_after = h.after
-
-    pub none_within : end ≤ x → NoneFrom (is_kept l S) from end
-    none_within past = further end (λ y after below. h.before y after (omega arith))
-
-    pub kept_next : from ≤ at → x < end → is_kept l S x ≡ true → IsNext (is_kept l S) from end x
-    kept_next after below passes = record { after = let more = h.after in omega arith; within = below; passes = passes; before = further x (λ y up under. h.before y up under) }
-
-    pub kept_elsewhere : is_kept l S x ≡ false → NoneFrom (is_kept l S) from (x + 1)
-    kept_elsewhere off y above below = by (cases_lt y x)
-      where
-        by : (y < x) ⊎ (x ≤ y) → is_kept l S y ≡ false
-        by (inl before) = further x (λ z up under. h.before z up under) y above before
-        by (inr here) = let same : y ≡ x = omega arith in ap (is_kept l S) same ∙ off
+pub unfit : {A : Type 0} (l : Leaving) (S : State A) (o : ℕ) → fits_part l S o ≡ false → is_kept l S o ≡ false
+unfit l S o h = left_fails (fits_part l S o) (not (may_leave l S o)) h
 
 -- ---- what is offered
 

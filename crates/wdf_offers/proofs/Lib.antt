@@ -2,6 +2,7 @@ pub mod Places
 pub mod NotOffered
 pub mod Skips
 pub mod Passing
+pub mod Wider
 pub mod Cancels
 pub mod Own
 pub mod Straight

@@ -15,24 +15,22 @@ use Rattle.wdf_model.specs.declared.entries.Holding.{Holding}
 use Rattle.wdf_model.specs.declared.enums.Group.TheVariants as group
 use Rattle.wdf_model.specs.parts.Power.{holding_of, resume_due}
 use Rattle.wdf_model.specs.parts.Requests.{origin_of}
-use Rattle.wdf_model.specs.parts.Targets.{the_target}
 use Rattle.law_machine_base.specs.Agreement.{managed_origin}
 use Rattle.wdf_maps.specs.Counts.{is_at}
 use Rattle.wdf_power.specs.ForQueues.{resuming_from, resuming_queue}
 use Rattle.wdf_request.specs.Keys.{is_due_sent}
 use Rattle.wdf_sets.specs.Nexts.{NoneFrom}
-use Rattle.wdf_target.specs.Laden.{is_laden}
 use Rattle.wdf_offers.specs.declared.for_requests.Herd.{Herd}
 use Rattle.wdf_offers.specs.declared.for_requests.Herd.TheVariants as herd
 use Rattle.wdf_offers.specs.Ahead.{NothingFor, goes_by_counts, has_counted, may_be_due, may_be_due_on}
 use Rattle.wdf_offers.specs.ForRequests.{IsExact, counted, herd_group, herd_of, is_counted, may_begin}
 use Rattle.wdf_offers.specs.Leaving.{IsSettled}
 use Rattle.wdf_offers.specs.Search.{offered_from}
-use Rattle.wdf_offers.proofs.AtRest.{none_among}
+use Rattle.wdf_offers.proofs.AtRest.{none_among, unfinished_off}
 use Rattle.wdf_offers.proofs.HerdWalk.{none_on, past_holdings}
 use Rattle.wdf_offers.proofs.Herds.{else_none, exact_cancels, exact_resumes, exact_returns, exact_stops, herd_is}
 use Rattle.wdf_offers.proofs.NotOffered.{not_due}
-use Rattle.wdf_offers.proofs.Places.{nothing_there, past}
+use Rattle.wdf_offers.proofs.Places.{nothing_there}
 
 -- below itself there is no id
 pub none_yet : (test : ℕ → Bool) (from : ℕ) → NoneFrom test from from
@@ -106,14 +104,8 @@ module _ {A : Type 0} (plan : Plan) (m : Meaning A) (S : State A) (settled : IsS
       let both = or_parts (has_counted h S q) (not (goes_by_counts h S)) e in
       counted_off h (not_false (goes_by_counts h S) both.1) both.0
 
-  -- a target without a request has no place
-  unladen_off : is_laden S.targets q ≡ false → offered_from plan m S (group.StartsFor cpu rank.Completion q) 0 ≡ []
-  unladen_off e =
-      let none = ltb-false 0 (length (the_target S.targets q).sent) e in
-      past plan m S (group.StartsFor cpu rank.Completion q) 0 (omega (arith, none))
-
   undue_for : (r : Rank) → may_be_due S r q ≡ false → offered_from plan m S (group.StartsFor cpu r q) 0 ≡ []
-  undue_for rank.Completion e = unladen_off e
+  undue_for rank.Completion e = unfinished_off plan m S cpu q e
   undue_for rank.Cancel e = herd_off herd.Cancel e
   undue_for rank.CanceledOnQueue e = herd_off herd.Return e
   undue_for rank.Stop e = herd_off herd.Stop e

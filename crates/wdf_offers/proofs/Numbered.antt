@@ -1,8 +1,10 @@
 -- What may of what fits: two tests on ids, of which the first passes only where the other does. Where so many of those that
 -- fit are kept back below an id, so many fewer may.
-use Rattle.std.proofs.Common.{ℕ, zero, suc, ◌≡◌, ◌⊎◌, ◌+◌, ◌-◌, ◌<◌, ◌≤◌, Bool, true, false, cond, not, ◌&&◌, List, [], ◌∷◌, filter, length, slice_get, Some, None, refl, sym, ap, subst, ◌∙◌, inl, inr, arith}
+use Rattle.std.proofs.Common.{ℕ, zero, suc, ◌≡◌, ◌⊎◌, ◌+◌, ◌-◌, ◌<◌, ◌≤◌, Bool, true, false, cond, not, ◌&&◌, List, [], ◌∷◌, filter, length, slice_get, Option, Some, None, MatchOption, option_map, refl, sym, ap, subst, ◌∙◌, inl, inr, arith}
 use Rattle.std.specs.List.{range_with_len}
 use Rattle.std.proofs.lemmas.Bool.{cases_Bool, cases_lt}
+use Rattle.std.proofs.lemmas.Option.{slice_get-get_or, slice_get_within}
+use Rattle.wdf_base.specs.declared.ids.ObjectId.{ObjectId}
 use Rattle.wdf_sets.specs.Nexts.{IsNext, NoneFrom}
 
 abbrev one : Bool → ℕ
@@ -101,6 +103,66 @@ past_all : (xs : List ℕ) (k : ℕ) → length xs ≤ k → slice_get xs k ≡ 
 past_all [] k h = refl
 past_all (x ∷ xs) zero h = absurd (omega arith)
 past_all (x ∷ xs) (suc k) h = past_all xs k (omega arith)
+
+-- no fewer pass below a greater id
+below_rises_by : (p : ℕ → Bool) (at more : ℕ) → below p at ≤ below p (at + more)
+below_rises_by p at zero = let z : at + 0 ≡ at = omega arith in rw z (omega arith)
+below_rises_by p at (suc more) =
+    let rest = below_rises_by p at more in
+    let next = below_more p (at + more) in
+    let step : at + more + 1 ≡ at + suc more = omega arith in
+    let same = ap (below p) step in
+    omega arith
+
+below_rises : (p : ℕ → Bool) (at to : ℕ) → at ≤ to → below p at ≤ below p to
+below_rises p at to up = let z : at + (to - at) ≡ to = omega arith in subst (λ y. below p at ≤ below p y) z (below_rises_by p at (to - at))
+
+module _ (p : ℕ → Bool) (n from : ℕ) where
+  -- as many pass before the next one from an id on as before that id
+  none_placed : None ≡ slice_get (filter p (range_with_len 0 n)) (below p from) → NoneFrom p from n
+  none_placed h id above low = by (p id) refl
+    where
+      by : (b : Bool) → p id ≡ b → b ≡ false
+      by false e = refl
+      by true e =
+          let up = below_rises p from id above in
+          let here = placed p n id low e in
+          let within = slice_get_within (filter p (range_with_len 0 n)) (below p id) id here in
+          let there = slice_get-get_or (filter p (range_with_len 0 n)) (below p from) id (omega arith) in
+          let some = h ∙ there in
+          absurd (let z : ⊥ = cc in z)
+
+  next_placed : (x : ℕ) → Some x ≡ slice_get (filter p (range_with_len 0 n)) (below p from) → IsNext p from n x
+  next_placed x h = by (cases_lt from n)
+    where
+      high : below p from < below p n
+      high = slice_get_within (filter p (range_with_len 0 n)) (below p from) x (sym h)
+
+      by : (from < n) ⊎ (n ≤ from) → IsNext p from n x
+      by (inr past) = let up = below_rises p n from past in absurd (omega arith)
+      by (inl low) =
+          let z : from + (n - from) ≡ n = omega arith in
+          let found = found_by p from (n - from) (below p from) (omega arith) (subst (λ y. below p from < below p y) (sym z) high) in
+          let above : from ≤ found.0 = found.1 in
+          let within : found.0 < from + (n - from) = found.2 in
+          let on : p found.0 ≡ true = found.3 in
+          let is : below p found.0 ≡ below p from = found.4 in
+          let same : Some x ≡ Some found.0 = h ∙ (ap (slice_get (filter p (range_with_len 0 n))) (sym is) ∙ placed p n found.0 (omega arith) on) in
+          let id : found.0 ≡ x = cc in
+          subst (IsNext p from n) id (record { after = above; within = omega arith; passes = on; before = λ y after under. none_before found.0 is y (p y) refl after under })
+        where
+          none_before : (to : ℕ) → below p to ≡ below p from → (y : ℕ) (b : Bool) → p y ≡ b → from ≤ y → y < to → b ≡ false
+          none_before to is y false e after under = refl
+          none_before to is y true e after under =
+              let more : below p (y + 1) ≡ below p y + 1 = below_more p y ∙ ap (λ b. below p y + one b) e in
+              let up = below_rises p from y after in
+              let rest = below_rises p (y + 1) to (omega arith) in
+              absurd (omega arith)
+
+  pub next_fits : (found : Option ObjectId) → option_map (λ (o : ObjectId). o.0) found ≡ slice_get (filter p (range_with_len 0 n)) (below p from)
+      → MatchOption found (NoneFrom p from n) (λ (o : ObjectId). IsNext p from n o.0)
+  next_fits None h = none_placed h
+  next_fits (Some o) h = next_placed o.0 h
 
 -- ---- two tests
 

@@ -9,7 +9,7 @@ use Rattle.wdf_model.specs.State.{State}
 use Rattle.wdf_model.specs.declared.enums.Group.TheVariants as group
 use Rattle.wdf_power.specs.ForQueues.{resuming_from}
 use Rattle.wdf_request.specs.Keys.{is_due_sent}
-use Rattle.wdf_target.specs.Laden.{is_laden}
+use Rattle.wdf_target.specs.Finished.{has_finished}
 use Rattle.wdf_offers.specs.declared.for_requests.Herd.{Herd}
 use Rattle.wdf_offers.specs.declared.for_requests.Herd.TheVariants as herd
 use Rattle.wdf_offers.specs.ForRequests.{counted, herd_of}
@@ -26,14 +26,15 @@ goes_by_counts herd.Cancel S = not (list_any is_due_sent S.requests.all)
 goes_by_counts herd.Resume S = length (resuming_from S.power 0) == 0
 goes_by_counts _ S = true
 
--- the callback of a herd may be due on a queue; it is said of each where it isn't counted by queue
+-- as far as the counts tell, the callback of a herd may be due on a queue; it is said of each where it isn't counted by queue
 abbrev pub may_be_due_on : {A : Type 0} → State A → Option Herd → ℕ → Bool
 may_be_due_on S None q = true
 may_be_due_on S (Some h) q = has_counted h S q || not (goes_by_counts h S)
 
--- a callback of a rank may be due on an object: a completion routine where a request is sent to the target
+-- as far as the counts tell, a callback of a rank may be due on an object: a completion routine where the target is done with a
+-- request that comes back
 abbrev pub may_be_due : {A : Type 0} → State A → Rank → ℕ → Bool
-may_be_due S rank.Completion t = is_laden S.targets t
+may_be_due S rank.Completion t = has_finished S.targets t
 may_be_due S r q = may_be_due_on S (herd_of r) q
 
 -- nothing may come for the objects from one on below another, on whatever processor

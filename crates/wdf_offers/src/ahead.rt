@@ -1,7 +1,7 @@
 //! The next object for which a callback of a rank for requests may be due. None of those before it needs a look. (own)
 ghost use Rattle.std.specs.Prelude.{◌≡◌, MatchOption};
 ghost use Rattle.wdf_model.specs.declared.room.TheConstants.{OBJECTS};
-ghost use Rattle.wdf_target.specs.Laden.{is_laden};
+ghost use Rattle.wdf_target.specs.Finished.{has_finished};
 ghost use Rattle.wdf_sets.specs.Nexts.{IsNext, NoneFrom};
 ghost use Rattle.wdf_offers.specs.Ahead as ahead;
 ghost use Rattle.wdf_offers.specs.Leaving.{IsSettled};
@@ -13,7 +13,7 @@ use wdf_parts::Parts;
 use wdf_plan_index::IndexedPlan;
 
 impl Herd {
-    /// Whether the callback is due on no queue for which none is counted.
+    /// True only where the callback is due on no queue for which none is counted.
     fn goes_by_counts<A: Agent>(self, parts: &Parts<A>) -> bool
         ensures { result ≡ ahead.goes_by_counts self parts.now }
     {
@@ -61,11 +61,11 @@ fn next_of_herd<A: Agent>(parts: &Parts<A>, herd: Option<Herd>, from: u32) -> u3
     }
 }
 
-/// The first target from one on that has a request, or the end of all ids where none has.
+/// The first target from one on that has a request whose completion routine is due, or the end of all ids where none has.
 fn next_target<A: Agent>(parts: &Parts<A>, from: u32) -> u32
-    ensures { NoneFrom (is_laden parts.now.targets) from result }
+    ensures { NoneFrom (has_finished parts.now.targets) from result }
 {
-    match parts.targets().next_laden(from, OBJECTS) {
+    match parts.targets().next_with_finished(from, OBJECTS) {
         Some(t) => t,
         None => OBJECTS,
     }
@@ -82,8 +82,8 @@ fn next_by_rank<A: Agent>(parts: &Parts<A>, rank: Rank, from: u32) -> u32
 }
 
 /// An id such that nothing may come of a rank for the objects from one on below it, on whatever processor. It is the first
-/// object for which a request is counted, and `from` itself where the callbacks of the rank aren't counted by object. No
-/// object is looked at.
+/// object for which a request is counted, or the end of all ids where there is none; and `from` itself where the counts
+/// don't tell. No object is looked at.
 pub fn next_object<A: Agent>(plan: &IndexedPlan, parts: &Parts<A>, rank: Rank, from: u32) -> u32
     requires settled { IsSettled plan.now parts.now }
     ensures due { NoneFrom (ahead.may_be_due parts.now rank) from result }

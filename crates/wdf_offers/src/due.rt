@@ -77,6 +77,8 @@ fn next_cancel<A: Agent>(
     None
 }
 
+/// The first place from one on below an end at which the completion routine of what is sent to a target is due. It asks only what
+/// the target is done with.
 fn next_routine<A: Agent>(
     plan: &IndexedPlan,
     parts: &Parts<A>,
@@ -84,6 +86,10 @@ fn next_routine<A: Agent>(
     from: usize,
     end: usize,
 ) -> Option<usize>
+    requires within { end ≤ groups.places_for plan.now parts.now rank.Completion t.0 }
+    requires small { end ≤ 2 ^ 32 }
+    ensures { MatchOption result (NoneFrom (idle.is_due_at plan.now parts.now rank.Completion t.0) from end)
+        (λ place. IsNext (idle.is_due_at plan.now parts.now rank.Completion t.0) from end place) }
 {
     let mut at = from;
     'search: while at < end {

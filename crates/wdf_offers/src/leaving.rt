@@ -271,15 +271,30 @@ impl Leaving {
         }
     }
 
-    /// The first object from an id on below an end that is kept back.
+    /// The first object from an id on that may leave so by one part alone.
+    fn next_fitting<A: Agent>(self, parts: &Parts<A>, from: ObjectId) -> Option<ObjectId>
+        requires settled { DeletedSettled parts.now }
+        ensures { MatchOption result (NoneFrom (fits_part self parts.now) from.0 (length parts.now.tree.nodes))
+            (λ o. IsNext (fits_part self parts.now) from.0 (length parts.now.tree.nodes) o.0) }
+    {
+        self.fitting_at(parts, self.fitting_before(parts, from))
+    }
+
+    /// The first object from an id on below an end that is kept back. It goes from one that fits to the next that something can
+    /// keep back, and on from there, so that it takes no more turns than there are of the fewer.
     fn next_kept<A: Agent>(self, parts: &Parts<A>, from: u32, end: u32) -> Option<u32>
         requires settled { DeletedSettled parts.now }
         requires room { end ≤ OBJECTS }
+        requires within { end ≤ length parts.now.tree.nodes }
         ensures { MatchOption result (NoneFrom (is_kept self parts.now) from end) (λ o. IsNext (is_kept self parts.now) from end o) }
     {
         let mut at = from;
         'search: while at < end {
-            let o = match self.next_busy(parts, ObjectId(at)) {
+            let fitting = match self.next_fitting(parts, ObjectId(at)) {
+                Some(o) => o,
+                None => return None,
+            };
+            let o = match self.next_busy(parts, fitting) {
                 Some(o) => o,
                 None => return None,
             };
