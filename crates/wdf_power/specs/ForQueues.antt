@@ -12,7 +12,8 @@ use Rattle.wdf_sets.specs.SetOf as sets
 abbrev pub unasked_queue : Holding → Option ObjectId
 unasked_queue h = if is_held h && not h.stop_asked then Some h.queue else None
 
--- the queue that a request is held from, where a resume is due for it
+-- the queue that a request is held from, where a resume is due for it; it is 0, the id of no queue, where the request is held
+-- from no power-managed queue
 abbrev pub resuming_queue : Holding → Option ObjectId
 resuming_queue h = if h.resume_due then Some h.queue else None
 
@@ -36,7 +37,8 @@ has_unasked P q = nat_lt 0 (length (unasked_from P q))
 abbrev pub resuming : Power → List ℕ
 resuming P = filter (λ r. resume_due P r) (ids_of P.holdings)
 
--- of those that are held from queue q
+-- of those that are held from queue q. Who asks for queue 0 gets those that are held from no power-managed queue:
+-- `goes_by_counts` of `wdf_offers` rests on it.
 abbrev pub resuming_from : Power → ℕ → List ℕ
 resuming_from P q = filter (λ r. is_at q (resuming_queue (holding_of P r))) (ids_of P.holdings)
 

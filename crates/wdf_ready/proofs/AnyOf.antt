@@ -98,10 +98,10 @@ module _ {A : Type 0} (S : State A) where
   some_open_requests = some_filtered (λ r. is_open_request (entry no_request S.requests.all r)) (ids_of S.requests.all) ∙ any_entry is_open_request no_request S.requests.all
 
   -- a device with steps left
-  abbrev pub has_steps : Plan → ℕ → Bool
-  has_steps plan d = is_some (device_of plan d) && nat_lt 0 (length (steps_left S.pnp d))
+  abbrev pub is_open_device : Plan → ℕ → Bool
+  is_open_device plan d = is_some (device_of plan d) && nat_lt 0 (length (steps_left S.pnp d))
 
-  pub some_open_devices : (plan : Plan) → nat_lt 0 (length (open_devices plan S)) ≡ list_any (has_steps plan) (declared_ids plan)
+  pub some_open_devices : (plan : Plan) → nat_lt 0 (length (open_devices plan S)) ≡ list_any (is_open_device plan) (declared_ids plan)
   some_open_devices plan =
       some_filtered (λ d. nat_lt 0 (length (steps_left S.pnp d))) (filter (λ d. is_some (device_of plan d)) (declared_ids plan))
       ∙ filtered_twice (λ d. is_some (device_of plan d)) (λ d. nat_lt 0 (length (steps_left S.pnp d))) (declared_ids plan)

@@ -12,7 +12,7 @@ use Rattle.wdf_base.specs.declared.rank.Rank.{Rank}
 use Rattle.wdf_model.specs.State.{State}
 use Rattle.wdf_offers.specs.Ahead.{NothingFor}
 use Rattle.wdf_offers.proofs.Passing.{Passed, drops_all, index_there, piece_opens, same_rest}
-use Rattle.wdf_ready.specs.Blocks.{IsNextAsked, NothingAfter, events_for, is_startable, startable}
+use Rattle.wdf_ready.specs.Blocks.{NothingBetween, NothingAfter, events_for, is_startable, startable}
 use Rattle.wdf_ready.proofs.InBlocks.{each_are, for_object}
 
 -- ---- the objects of a rank rise
@@ -45,7 +45,7 @@ module _ {A : Type 0} (plan : Plan) (m : Meaning A) (S : State A) (r : Rank) (id
   pub none_past : length ids ≤ from → NothingAfter plan m S r ids from
   none_past past cpu = ap (events_for plan m S cpu r) (drops_all ids from past)
 
-  pub asked_here : from < length ids → IsNextAsked plan m S r ids from from
+  pub asked_here : from < length ids → NothingBetween plan m S r ids from from
   asked_here within = record { after = omega arith; within = within; passed = λ cpu. refl }
 
   -- nothing may come for ids from that of an object on below another one, so that the objects up to the first that isn't below it
@@ -72,7 +72,7 @@ module _ {A : Type 0} (plan : Plan) (m : Meaning A) (S : State A) (r : Rank) (id
         ∙ ap (λ k. flat_map (for_object plan m S cpu r) (drop k ids)) e
         ∙ sym (each_are plan m S cpu r (drop place ids))
 
-    pub asked_later : place < length ids → IsNextAsked plan m S r ids from place
+    pub asked_later : place < length ids → NothingBetween plan m S r ids from place
     asked_later there = record { after = after; within = there; passed = passed }
 
     pub none_later : length ids ≤ place → NothingAfter plan m S r ids from
@@ -81,7 +81,7 @@ module _ {A : Type 0} (plan : Plan) (m : Meaning A) (S : State A) (r : Rank) (id
 -- ---- object by object
 
 module _ {A : Type 0} (plan : Plan) (m : Meaning A) (S : State A) (cpu : ℕ) (r : Rank) (ids : List ℕ) (from : ℕ) (all : List Event) (count : ℕ) where
-  pub passed_to : (place : ℕ) → IsNextAsked plan m S r ids from place → Passed all (flat_map (for_object plan m S cpu r) (drop from ids)) count
+  pub passed_to : (place : ℕ) → NothingBetween plan m S r ids from place → Passed all (flat_map (for_object plan m S cpu r) (drop from ids)) count
       → Passed all (flat_map (for_object plan m S cpu r) (drop place ids)) count
   passed_to place next p =
       same_rest all (flat_map (for_object plan m S cpu r) (drop from ids)) (flat_map (for_object plan m S cpu r) (drop place ids)) count

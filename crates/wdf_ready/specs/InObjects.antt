@@ -1,4 +1,4 @@
--- How the fields of the lists of objects are in order.
+-- The lists of objects, as their fields have them: the ids of each list rise.
 use Rattle.std.specs.List.Sorted.{IsNonDecreasing}
 use Rattle.wdf_ready.specs.declared.blocks.Objects.TheInside.{Inside}
 

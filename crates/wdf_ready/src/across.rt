@@ -16,7 +16,7 @@ use wdf_parts::Parts;
 use wdf_plan_index::IndexedPlan;
 
 /// How many of some rising ids are below one.
-fn below(ids: &[u32], id: u32) -> usize
+fn count_below(ids: &[u32], id: u32) -> usize
     requires rising { IsNonDecreasing ids.now }
     ensures within { result ≤ length ids.now }
     ensures splits { IsPartitionPoint (λ x. nat_lt x id ≡ true) (λ x. nat_lt x id ≡ false) ids.now result }
@@ -36,7 +36,7 @@ fn next_asked<A: Agent>(
     requires settled { IsSettled plan.now parts.now }
     requires rising { IsNonDecreasing objects.now }
     ensures { MatchOption result (blocks.NothingAfter plan.now A.meaning parts.now rank objects.now from)
-        (λ place. blocks.IsNextAsked plan.now A.meaning parts.now rank objects.now from place) }
+        (λ place. blocks.NothingBetween plan.now A.meaning parts.now rank objects.now from place) }
 {
     if from >= objects.len() {
         return None;
@@ -46,7 +46,7 @@ fn next_asked<A: Agent>(
     if next <= object {
         return Some(from);
     }
-    let place = below(objects, next);
+    let place = count_below(objects, next);
     if place < objects.len() {
         Some(place)
     } else {
@@ -105,7 +105,9 @@ fn each_at<A: Agent>(
     Err(left)
 }
 
-/// The first of them that is an actor's, by its place among them; or how many may come, none of which is the actor's.
+/// The first of them that is an actor's, by its place among them; or how many may come, none of which is the actor's. It looks at
+/// the groups of each object, as no premise says which may be left. Only [`first_by`] calls it, and no program calls that: they
+/// call `first_of`.
 fn first_of_each<A: Agent>(
     plan: &IndexedPlan,
     parts: &Parts<A>,

@@ -12,9 +12,9 @@ returns-then-next-object g c = asked_here c.args.plan.now g.A.Agent.meaning c.ar
 pub returns-then-place-objects : goal.returns-then-place-objects
 returns-then-place-objects g c =
     asked_later c.args.plan.now g.A.Agent.meaning c.args.parts.now c.args.rank c.args.objects.now c.args.from c.requires.rising (omega (arith, c.if-from-objects.false))
-    c.next_object-next.result c.next_object-next.ensures.nothing (omega (arith, c.if-next-object.false)) c.below-place.result c.below-place.ensures.within c.below-place.ensures.splits c.if-place-objects.true
+    c.next_object-next.result c.next_object-next.ensures.nothing (omega (arith, c.if-next-object.false)) c.count_below-place.result c.count_below-place.ensures.within c.count_below-place.ensures.splits c.if-place-objects.true
 
 pub returns-else-place-objects : goal.returns-else-place-objects
 returns-else-place-objects g c =
     none_later c.args.plan.now g.A.Agent.meaning c.args.parts.now c.args.rank c.args.objects.now c.args.from c.requires.rising (omega (arith, c.if-from-objects.false))
-    c.next_object-next.result c.next_object-next.ensures.nothing (omega (arith, c.if-next-object.false)) c.below-place.result c.below-place.ensures.within c.below-place.ensures.splits (omega (arith, c.if-place-objects.false))
+    c.next_object-next.result c.next_object-next.ensures.nothing (omega (arith, c.if-next-object.false)) c.count_below-place.result c.count_below-place.ensures.within c.count_below-place.ensures.splits (omega (arith, c.if-place-objects.false))

@@ -2,7 +2,7 @@
 use Rattle.std.proofs.Common.{nat_lt, of_calls, rules}
 use Rattle.std.proofs.lemmas.Fn.{always_returns_same}
 use Rattle.std.proofs.lemmas.List.Sorted.{IsPartitionedBy-ltb}
-use Rattle.wdf_ready.proofs.across.below.Goals as goal
+use Rattle.wdf_ready.proofs.across.count_below.Goals as goal
 
 pub returns-clause-splits : goal.returns-clause-splits
 returns-clause-splits c =
