@@ -1,5 +1,5 @@
 -- The first object from an id on that is counted, as the frames say it.
-use Rattle.std.proofs.Common.{ℕ, zero, suc, ◌≡◌, ◌<◌, ◌==◌, nat_lt, Bool, not, List, Option, Some, None, MatchOption, refl, ap, sym, ◌∙◌, arith}
+use Rattle.std.proofs.Common.{ℕ, zero, suc, ◌≡◌, ◌<◌, ◌==◌, nat_lt, not, List, Option, MatchOption, refl, ap, sym, ◌∙◌, arith}
 use Rattle.std.proofs.lemmas.Bool.{lt-ltb}
 use Rattle.std.proofs.lemmas.List.Sums.{length-filter}
 use Rattle.wdf_base.specs.declared.ids.ObjectId.{ObjectId}
@@ -9,7 +9,7 @@ use Rattle.wdf_model.specs.State.{waits_for}
 use Rattle.wdf_model.specs.parts.Cpus.{Cpus, all_frames, frame_of, is_on}
 use Rattle.wdf_model.proofs.Counts.{not_equal}
 use Rattle.wdf_sets.specs.Nexts.{IsNext, NoneFrom}
-use Rattle.wdf_sets.proofs.Nexts.{next_also, none_also}
+use Rattle.wdf_sets.proofs.Nexts.{found_also}
 use Rattle.wdf_tally.specs.Counted.{is_counted}
 use Rattle.wdf_cpu.specs.Keys.{CountsFrames, object_key, wait_key}
 use Rattle.wdf_cpu.specs.Occupied.{is_awaited, is_occupied}
@@ -28,20 +28,15 @@ awaited C counts h id low =
     some_or_none (entry 0 counts id) ∙ ap (λ n. not (n == 0)) (h.counted id low)
     ∙ any_counted (λ f. waits_for id (frame_of C f).pending) (λ f. same_id (wait_key (frame_of C f)) id) (λ f. waits_by_key id (frame_of C f).pending) (all_frames C)
 
-next_by : (p q : ℕ → Bool) (from : ℕ) (found : Option ObjectId) → ((id : ℕ) → id < OBJECTS → p id ≡ q id)
-    → MatchOption found (NoneFrom p from OBJECTS) (λ (o : ObjectId). IsNext p from OBJECTS o.0) → MatchOption found (NoneFrom q from OBJECTS) (λ (o : ObjectId). IsNext q from OBJECTS o.0)
-next_by p q from None same h = none_also p q from OBJECTS (λ id above below. same id below) h
-next_by p q from (Some o) same h = next_also p q from OBJECTS (λ id above below. same id below) o.0 h
-
 pub next_occupied_is : (C : Cpus) (counts : List ℕ) (from : ℕ) (found : Option ObjectId) → CountsFrames object_key C counts
     → MatchOption found (NoneFrom (is_counted counts) from OBJECTS) (λ (o : ObjectId). IsNext (is_counted counts) from OBJECTS o.0)
     → MatchOption found (NoneFrom (is_occupied C) from OBJECTS) (λ (o : ObjectId). IsNext (is_occupied C) from OBJECTS o.0)
-next_occupied_is C counts from found h = next_by (is_counted counts) (is_occupied C) from found (occupied C counts h)
+next_occupied_is C counts from found h = found_also (is_counted counts) (is_occupied C) from OBJECTS (λ id above. occupied C counts h id) (λ (o : ObjectId). o.0) found
 
 pub next_awaited_is : (C : Cpus) (counts : List ℕ) (from : ℕ) (found : Option ObjectId) → CountsFrames wait_key C counts
     → MatchOption found (NoneFrom (is_counted counts) from OBJECTS) (λ (o : ObjectId). IsNext (is_counted counts) from OBJECTS o.0)
     → MatchOption found (NoneFrom (is_awaited C) from OBJECTS) (λ (o : ObjectId). IsNext (is_awaited C) from OBJECTS o.0)
-next_awaited_is C counts from found h = next_by (is_counted counts) (is_awaited C) from found (awaited C counts h)
+next_awaited_is C counts from found h = found_also (is_counted counts) (is_awaited C) from OBJECTS (λ id above. awaited C counts h id) (λ (o : ObjectId). o.0) found
 
 parked_for : (C : Cpus) (counts : List ℕ) → CountsParked C counts → (id : ℕ) → id < OBJECTS → is_counted counts id ≡ some_parked_for C id
 parked_for C counts h id low =
@@ -50,4 +45,4 @@ parked_for C counts h id low =
 pub next_parked_for_is : (C : Cpus) (counts : List ℕ) (from : ℕ) (found : Option ObjectId) → CountsParked C counts
     → MatchOption found (NoneFrom (is_counted counts) from OBJECTS) (λ (o : ObjectId). IsNext (is_counted counts) from OBJECTS o.0)
     → MatchOption found (NoneFrom (some_parked_for C) from OBJECTS) (λ (o : ObjectId). IsNext (some_parked_for C) from OBJECTS o.0)
-next_parked_for_is C counts from found h = next_by (is_counted counts) (some_parked_for C) from found (parked_for C counts h)
+next_parked_for_is C counts from found h = found_also (is_counted counts) (some_parked_for C) from OBJECTS (λ id above. parked_for C counts h id) (λ (o : ObjectId). o.0) found

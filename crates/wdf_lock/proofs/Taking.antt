@@ -1,16 +1,16 @@
 -- The set of the objects whose lock is held.
-use Rattle.std.proofs.Common.{ℕ, zero, suc, ◌≡◌, ◌⊎◌, ◌<◌, ◌≤◌, Bool, false, not, List, [], Option, Some, None, MatchOption, option_map, is_some, replicate, slice_set, refl, ap, ◌∙◌, inl, inr, get_or-set_same, get_or-set_other, length-set, arith}
-use Rattle.std.proofs.lemmas.Bool.{cases_eq}
-use Rattle.std.proofs.lemmas.List.{length-replicate}
+use Rattle.std.proofs.Common.{ℕ, ◌≡◌, ◌<◌, ◌≤◌, Bool, false, not, List, [], Option, Some, None, MatchOption, option_map, is_some, replicate, slice_set, refl, sym, ap, ◌∙◌, arith}
 use Rattle.wdf_base.specs.declared.ids.ObjectId.{ObjectId}
 use Rattle.wdf_model.specs.declared.entries.Held.{Held}
 use Rattle.wdf_model.specs.declared.room.TheConstants.{OBJECTS}
-use Rattle.wdf_model.specs.Tables.{entry, put}
+use Rattle.wdf_model.specs.Tables.{put}
 use Rattle.wdf_model.specs.parts.Locks.{Locks, hold_of, is_free_hold, object_lock}
 use Rattle.wdf_model.proofs.Maps.{entry_put_other, entry_put_same}
 use Rattle.wdf_sets.specs.Members.{is_in}
 use Rattle.wdf_sets.specs.Nexts.{IsNext, NoneFrom}
-use Rattle.wdf_sets.proofs.Nexts.{next_also, none_also}
+use Rattle.wdf_sets.specs.SetOf.{passes}
+use Rattle.wdf_sets.proofs.Nexts.{found_also, next_also, none_also}
+use Rattle.wdf_sets.proofs.SetOf.{empty_set, set_put}
 use Rattle.wdf_lock.specs.Holders.{Holds, is_taken}
 use Rattle.wdf_lock.specs.Holds.{is_locked}
 use Rattle.wdf_lock.specs.InHolders.{HoldsTaken}
@@ -18,28 +18,20 @@ use Rattle.wdf_lock.specs.Kept.{IsKept}
 
 -- a hold is written, and its bit
 pub taken_put : (objects : List (Option Held)) (bits : List Bool) (o : ℕ) (hold : Option Held) → o < OBJECTS → HoldsTaken objects bits → HoldsTaken (put None objects o hold) (slice_set bits o (is_some hold))
-taken_put objects bits o hold low h = record { room = let room = h.room in rw (length-set bits o (is_some hold)) room; same = λ id. at id (cases_eq id o) }
-  where
-    at : (id : ℕ) → (id ≡ o) ⊎ (id ≡ o → ⊥) → is_in id (slice_set bits o (is_some hold)) ≡ is_some (entry None (put None objects o hold) id)
-    at id (inl same) = rw (same, get_or-set_same bits o (is_some hold) false (let room = h.room in omega arith), entry_put_same None objects o hold) refl
-    at id (inr other) = rw (get_or-set_other bits o id (is_some hold) false other, entry_put_other None objects o id hold other) (h.same id)
-
-none_in : (n id : ℕ) → is_in id (replicate n false) ≡ false
-none_in zero id = refl
-none_in (suc n) zero = refl
-none_in (suc n) (suc id) = none_in n id
+taken_put objects bits o hold low h =
+    set_put (passes None is_some objects) (passes None is_some (put None objects o hold)) OBJECTS bits o (is_some hold) h (let room = h.room in omega arith)
+    (ap is_some (sym (entry_put_same None objects o hold))) (λ id other. ap is_some (entry_put_other None objects o id hold other))
 
 -- nothing is held
 pub none_taken : (n : ℕ) (objects : List (Option Held)) (bits : List Bool) → objects ≡ [] → OBJECTS ≤ n → bits ≡ replicate n false → HoldsTaken objects bits
-none_taken n objects bits none room e = rw none (record { room = rw (e, length-replicate n false) room; same = λ id. rw e (none_in n id) })
+none_taken n objects bits none room e = rw none (empty_set (passes {T = Option Held} None is_some []) OBJECTS n bits e room (λ id. refl))
 
 -- ---- what it answers
 
 pub next_holder : (H : Holds) (bits : List Bool) (from : ℕ) (found : Option ℕ) → HoldsTaken H.objects bits
     → MatchOption found (NoneFrom (λ id. is_in id bits) from OBJECTS) (λ o. IsNext (λ id. is_in id bits) from OBJECTS o)
     → MatchOption found (NoneFrom (is_taken H) from OBJECTS) (λ o. IsNext (is_taken H) from OBJECTS o)
-next_holder H bits from None h k = none_also (λ id. is_in id bits) (is_taken H) from OBJECTS (λ id above below. h.same id) k
-next_holder H bits from (Some x) h k = next_also (λ id. is_in id bits) (is_taken H) from OBJECTS (λ id above below. h.same id) x k
+next_holder H bits from found h = found_also (λ id. is_in id bits) (is_taken H) from OBJECTS (λ id above below. h.same id) (λ id. id) found
 
 held_or_free : (hold : Option Held) → is_some hold ≡ not (is_free_hold hold)
 held_or_free None = refl

@@ -1,12 +1,12 @@
 -- The requests that are held and weren't asked to stop, and those for which a resume is due, by the queue that they are held from.
-use Rattle.std.specs.Prelude.{if◌then◌else◌, ℕ, ◌≡◌, ◌≤◌, nat_lt, Bool, ◌&&◌, not, List, filter, length, Option, Some, None, is_some}
+use Rattle.std.specs.Prelude.{if◌then◌else◌, ℕ, nat_lt, Bool, ◌&&◌, not, List, filter, length, Option, Some, None, is_some}
 use Rattle.wdf_base.specs.declared.ids.ObjectId.{ObjectId}
 use Rattle.wdf_model.specs.declared.entries.Holding.{Holding}
 use Rattle.wdf_model.specs.declared.room.TheConstants.{OBJECTS}
-use Rattle.wdf_model.specs.Tables.{entry, ids_of}
+use Rattle.wdf_model.specs.Tables.{ids_of}
 use Rattle.wdf_model.specs.parts.Power.{Power, holding_of, is_held, no_holding, resume_due}
 use Rattle.wdf_maps.specs.Counts.{is_at}
-use Rattle.wdf_sets.specs.Members.{is_in}
+use Rattle.wdf_sets.specs.SetOf as sets
 
 -- the queue that a request is held from, where it wasn't asked to stop
 abbrev pub unasked_queue : Holding → Option ObjectId
@@ -47,6 +47,5 @@ abbrev pub has_resuming : Power → ℕ → Bool
 has_resuming P q = nat_lt 0 (length (resuming_from P q))
 
 -- The set has a bit for each object, and its members are the requests whose holding passes a test.
-pub record IsSetOf (test : Holding → Bool) (all : List Holding) (bits : List Bool) : Type 0 where
-  pub room : OBJECTS ≤ length bits
-  pub same : (id : ℕ) → is_in id bits ≡ test (entry no_holding all id)
+abbrev pub IsSetOf : (Holding → Bool) → List Holding → List Bool → Type 0
+IsSetOf test all bits = sets.IsSetOf (sets.passes no_holding test all) OBJECTS bits

@@ -1,5 +1,5 @@
 -- The requests of a queue for which a callback is due: the ids of the set and the counts by queue.
-use Rattle.std.proofs.Common.{ℕ, suc, ◌≡◌, ◌+◌, ◌<◌, ◌≤◌, nat_lt, Bool, List, [], ◌∷◌, Option, None, MatchOption, count_by, filter, is_some, length, refl, ap, sym, ◌∙◌, add-zero, arith}
+use Rattle.std.proofs.Common.{ℕ, suc, ◌≡◌, ◌+◌, ◌<◌, nat_lt, Bool, List, [], ◌∷◌, Option, None, MatchOption, count_by, filter, is_some, length, refl, ap, sym, ◌∙◌, add-zero, arith}
 use Rattle.std.specs.List.{range_with_len}
 use Rattle.std.proofs.lemmas.List.Sums.{length-filter}
 use Rattle.wdf_base.specs.Places.{is_returning_to}
@@ -79,5 +79,5 @@ pub none_due : due_queue no_request ≡ None
 none_due = refl
 
 -- the members are those that return
-pub members_returning : (R : Requests) (bits : List Bool) → length R.all ≤ OBJECTS → IsSetOf (λ (r : Request). is_some (returning_queue r.place)) R.all bits → members bits ≡ returning_requests R
-members_returning R bits few set = members_are (λ (r : Request). is_some (returning_queue r.place)) R.all bits refl few set
+pub members_returning : (R : Requests) (bits : List Bool) → IsSetOf (λ (r : Request). is_some (returning_queue r.place)) R.all bits → members bits ≡ returning_requests R
+members_returning R bits set = members_are (λ (r : Request). is_some (returning_queue r.place)) R.all bits refl set

@@ -9,4 +9,4 @@ pub returns : goal.returns
 returns c =
     rw (c.from.ensures, ← c.self.view_is)
     (member_from c.self.inside.resuming_ids c.args.from
-    ∙ ap (λ ids. find (nat_le c.args.from) ids) (members_resuming (holdings_in c.self.inside) c.self.inside.resuming_ids c.self.invariant.within c.self.invariant.resuming_ids))
+    ∙ ap (λ ids. find (nat_le c.args.from) ids) (members_resuming (holdings_in c.self.inside) c.self.inside.resuming_ids c.self.invariant.resuming_ids))

@@ -9,4 +9,4 @@ pub returns : goal.returns
 returns c =
     rw (c.from.ensures, ← c.self.view_is)
     (member_from c.self.inside.unasked_ids c.args.from
-    ∙ ap (λ ids. find (nat_le c.args.from) ids) (members_unasked (holdings_in c.self.inside) c.self.inside.unasked_ids c.self.invariant.within c.self.invariant.unasked_ids))
+    ∙ ap (λ ids. find (nat_le c.args.from) ids) (members_unasked (holdings_in c.self.inside) c.self.inside.unasked_ids c.self.invariant.unasked_ids))

@@ -7,4 +7,4 @@ use Rattle.wdf_power.proofs.holdings.Holdings.resuming_at.Goals as goal
 pub returns : goal.returns
 returns c =
     rw (c.at.ensures, ← c.self.view_is)
-    (ap (λ ids. slice_get ids c.args.k) (members_resuming (holdings_in c.self.inside) c.self.inside.resuming_ids c.self.invariant.within c.self.invariant.resuming_ids))
+    (ap (λ ids. slice_get ids c.args.k) (members_resuming (holdings_in c.self.inside) c.self.inside.resuming_ids c.self.invariant.resuming_ids))

@@ -7,4 +7,4 @@ use Rattle.wdf_power.proofs.holdings.Holdings.unasked_at.Goals as goal
 pub returns : goal.returns
 returns c =
     rw (c.at.ensures, ← c.self.view_is)
-    (ap (λ ids. slice_get ids c.args.k) (members_unasked (holdings_in c.self.inside) c.self.inside.unasked_ids c.self.invariant.within c.self.invariant.unasked_ids))
+    (ap (λ ids. slice_get ids c.args.k) (members_unasked (holdings_in c.self.inside) c.self.inside.unasked_ids c.self.invariant.unasked_ids))

@@ -5,4 +5,4 @@ use Rattle.wdf_power.proofs.ForQueues.{members_unasked}
 use Rattle.wdf_power.proofs.holdings.Holdings.unasked_len.Goals as goal
 
 pub returns : goal.returns
-returns c = rw (c.len.ensures, ← c.self.view_is) (ap length (members_unasked (holdings_in c.self.inside) c.self.inside.unasked_ids c.self.invariant.within c.self.invariant.unasked_ids))
+returns c = rw (c.len.ensures, ← c.self.view_is) (ap length (members_unasked (holdings_in c.self.inside) c.self.inside.unasked_ids c.self.invariant.unasked_ids))

@@ -6,4 +6,4 @@ use Rattle.wdf_request.proofs.requests.Requests.closing_at.Goals as goal
 pub returns : goal.returns
 returns c =
     rw (c.object_at.ensures, c.at.ensures, ← c.self.view_is)
-    (ap (λ ids. slice_get ids c.args.k) (members_closing c.self.inside.all.items c.self.inside.closing c.self.invariant.entries c.self.invariant.closing))
+    (ap (λ ids. slice_get ids c.args.k) (members_closing c.self.inside.all.items c.self.inside.closing c.self.invariant.closing))

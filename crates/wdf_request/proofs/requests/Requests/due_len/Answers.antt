@@ -4,4 +4,4 @@ use Rattle.wdf_request.proofs.Members.{members_due}
 use Rattle.wdf_request.proofs.requests.Requests.due_len.Goals as goal
 
 pub returns : goal.returns
-returns c = rw (c.len.ensures, ← c.self.view_is) (ap length (members_due c.self.inside.all.items c.self.inside.due c.self.invariant.entries c.self.invariant.due))
+returns c = rw (c.len.ensures, ← c.self.view_is) (ap length (members_due c.self.inside.all.items c.self.inside.due c.self.invariant.due))

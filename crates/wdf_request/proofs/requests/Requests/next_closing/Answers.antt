@@ -8,4 +8,4 @@ pub returns : goal.returns
 returns c =
     rw (c.object_at.ensures, c.from.ensures, ← c.self.view_is)
     (member_from c.self.inside.closing c.args.from.0
-    ∙ ap (λ ids. find (nat_le c.args.from.0) ids) (members_closing c.self.inside.all.items c.self.inside.closing c.self.invariant.entries c.self.invariant.closing))
+    ∙ ap (λ ids. find (nat_le c.args.from.0) ids) (members_closing c.self.inside.all.items c.self.inside.closing c.self.invariant.closing))

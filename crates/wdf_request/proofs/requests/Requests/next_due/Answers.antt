@@ -8,4 +8,4 @@ pub returns : goal.returns
 returns c =
     rw (c.object_at.ensures, c.from.ensures, ← c.self.view_is)
     (member_from c.self.inside.due c.args.from.0
-    ∙ ap (λ ids. find (nat_le c.args.from.0) ids) (members_due c.self.inside.all.items c.self.inside.due c.self.invariant.entries c.self.invariant.due))
+    ∙ ap (λ ids. find (nat_le c.args.from.0) ids) (members_due c.self.inside.all.items c.self.inside.due c.self.invariant.due))

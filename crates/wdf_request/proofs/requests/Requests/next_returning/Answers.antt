@@ -9,4 +9,4 @@ pub returns : goal.returns
 returns c =
     rw (c.object_at.ensures, c.from.ensures, ← c.self.view_is)
     (member_from c.self.inside.returns c.args.from.0
-    ∙ ap (λ ids. find (nat_le c.args.from.0) ids) (members_returning (requests_in c.self.inside) c.self.inside.returns c.self.invariant.entries c.self.invariant.returns))
+    ∙ ap (λ ids. find (nat_le c.args.from.0) ids) (members_returning (requests_in c.self.inside) c.self.inside.returns c.self.invariant.returns))
