@@ -24,7 +24,7 @@ use Rattle.wdf_model.specs.parts.Tree.{nearest_device}
 use Rattle.wdf_model.specs.rules.Starts.{level_fits}
 use Rattle.wdf_pnp.specs.Stepping.{none_stepping}
 use Rattle.wdf_pnp.proofs.Stepping.{at_rest}
-use Rattle.wdf_target.specs.Finished.{finished_at, has_finished, is_finished, none_finished, passes_if}
+use Rattle.wdf_target.specs.Finished.{finished_at, has_finished, is_finished, passes_if}
 use Rattle.wdf_target.proofs.Noting.{unfinished, unfinished_at}
 use Rattle.wdf_offers.specs.declared.for_requests.Herd.{Herd}
 use Rattle.wdf_offers.specs.declared.for_requests.Herd.TheVariants as herd

@@ -33,7 +33,6 @@ use Rattle.wdf_model.specs.declared.entries.Node.{Node}
 use Rattle.wdf_model.specs.declared.enums.Group.TheVariants as group
 use Rattle.wdf_model.specs.Tables.{ids_of}
 use Rattle.wdf_model.specs.State.{State, declared_in, declares_in, handle_in, nothing_at}
-use Rattle.wdf_model.specs.declared.room.TheConstants.{OBJECTS}
 use Rattle.wdf_model.specs.parts.Cpus.{is_empty_cpu, nobody_on}
 use Rattle.wdf_model.specs.declared.entries.Timed.{Timed}
 use Rattle.wdf_model.specs.parts.Deferred.Timers.{is_reached, is_timer_queued, timed_of, timer_due}

@@ -19,6 +19,11 @@ read_as [] q x l e = absurd (omega arith)
 read_as (y ∷ ts) zero x l e = sym e
 read_as (y ∷ ts) (suc q) x l e = read_as ts q x (omega arith) e
 
+-- an item that was looked up
+pub entry_read : (ts us : List Target) (q : ℕ) (x : Target) → us ≡ ts → true ≡ nat_lt q (length us) → x ≡ slice_index_or us q x → entry no_target ts q ≡ x
+entry_read ts us q x same within read =
+    read_as ts q x (subst (λ xs. q < length xs) same (ltb-true q (length us) (sym within))) (read ∙ ap (λ xs. slice_index_or xs q x) same)
+
 -- the target of a request, as what is kept of it was read
 pub holder_read : (hs rs : List (Option ObjectId)) (r : ℕ) (found o : Option ObjectId) → found ≡ entry None rs r → rs ≡ hs → found ≡ o → entry None hs r ≡ o
 holder_read hs rs r found o e same is = sym (e ∙ ap (λ os. entry None os r) same) ∙ is

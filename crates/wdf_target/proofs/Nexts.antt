@@ -1,5 +1,5 @@
 -- Which requests a target is done with: by what is kept of each, and the next of them from a place on.
-use Rattle.std.proofs.Common.{ℕ, ◌≡◌, ◌<◌, ◌≤◌, ◌⊎◌, inl, inr, nat_lt, Bool, true, false, length, filter, Option, Some, None, is_some, slice_get, slice_index_or, refl, sym, ap, ◌∙◌, arith}
+use Rattle.std.proofs.Common.{ℕ, ◌≡◌, ◌<◌, ◌≤◌, ◌⊎◌, inl, inr, nat_lt, Bool, true, false, length, filter, map, Option, Some, None, is_some, slice_get, slice_index_or, refl, sym, ap, ◌∙◌, arith}
 use Rattle.std.specs.Prelude.{option_and_then}
 use Rattle.std.proofs.lemmas.Bool.{cases_lt}
 use Rattle.std.proofs.lemmas.Option.{slice_get-get_or, slice_get_within}
@@ -7,10 +7,10 @@ use Rattle.wdf_base.proofs.Tests.{in_filter}
 use Rattle.wdf_model.specs.declared.entries.Sending.{Sending}
 use Rattle.wdf_model.specs.parts.Targets.{Target, routine_outcome}
 use Rattle.wdf_maps.specs.Places.{SplitsAt, rises}
-use Rattle.wdf_maps.proofs.Passing.{Among, among_all, among_passing, any_among, entry_at_place, keys_grow, passing_rise, some_pass}
+use Rattle.wdf_maps.proofs.Passing.{Among, among_all, among_passing, any_among, entry_at_place, filter_among, keys_grow, passing_rise, some_pass}
 use Rattle.wdf_maps.proofs.PlacesOfKeys.{keys_rise}
 use Rattle.wdf_sets.specs.Nexts.{IsNext, NoneFrom}
-use Rattle.wdf_target.specs.Finished.{comes_back, done_at, has_done, is_done_with, passes_if}
+use Rattle.wdf_target.specs.Finished.{comes_back, done_at, done_in, has_done, is_done_with, passes_if}
 use Rattle.wdf_target.specs.Target.{request_id}
 
 module _ (t : Target) (high : ℕ) (rising : rises request_id 0 high t.sent ≡ true) where
@@ -21,6 +21,10 @@ module _ (t : Target) (high : ℕ) (rising : rises request_id 0 high t.sent ≡ 
   -- it is done with some exactly where some come back
   pub some_done : nat_lt 0 (length (filter comes_back t.sent)) ≡ has_done t
   some_done = some_pass comes_back t.sent ∙ any_among comes_back (λ (s : Sending). is_done_with t s.request.0) t.sent (λ k s at. sym (done_as_kept k s at))
+
+  -- those that come back
+  pub all_done : map request_id (filter comes_back t.sent) ≡ done_in t
+  all_done = ap (map request_id) (filter_among comes_back (λ (s : Sending). is_done_with t s.request.0) t.sent (λ k s at. sym (done_as_kept k s at)))
 
   not_done_at : (k : ℕ) (s : Sending) → slice_get t.sent k ≡ Some s → comes_back s ≡ false → done_at t k ≡ false
   not_done_at k s at off = ap (passes_if (λ (x : Sending). is_done_with t x.request.0)) at ∙ (done_as_kept k s at ∙ off)
@@ -56,10 +60,10 @@ module _ (t : Target) (high : ℕ) (rising : rises request_id 0 high t.sent ≡ 
     pub none_after : length (filter comes_back t.sent) ≤ place → NoneFrom (done_at t) from (length t.sent)
     none_after past k after below =
         none_done_at k (λ s at on.
-          let a = among_passing comes_back t.sent k s at on in
-          let far = reaches k s after at on a in
-          let within = slice_get_within (filter comes_back t.sent) a.place s a.at in
-          absurd (omega arith))
+        let a = among_passing comes_back t.sent k s at on in
+        let far = reaches k s after at on a in
+        let within = slice_get_within (filter comes_back t.sent) a.place s a.at in
+        absurd (omega arith))
 
     module _ (found : Sending) (there : slice_get (filter comes_back t.sent) place ≡ Some found) (result : ℕ) (ends : SplitsAt request_id (request_id found) t.sent result) where
       whole : Among t.sent found
@@ -101,11 +105,11 @@ module _ (t : Target) (high : ℕ) (rising : rises request_id 0 high t.sent ≡ 
       none_between : NoneFrom (done_at t) from result
       none_between k after below =
           none_done_at k (λ s at on.
-            let a = among_passing comes_back t.sent k s at on in
-            let far = reaches k s after at on a in
-            let above = keys_rise request_id 0 high place a.place (filter comes_back t.sent) found s (passing_rise request_id comes_back 0 high t.sent rising) far there a.at in
-            let less = ends.lesser k s at below in
-            absurd (omega arith))
+          let a = among_passing comes_back t.sent k s at on in
+          let far = reaches k s after at on a in
+          let above = keys_rise request_id 0 high place a.place (filter comes_back t.sent) found s (passing_rise request_id comes_back 0 high t.sent rising) far there a.at in
+          let less = ends.lesser k s at below in
+          absurd (omega arith))
 
       pub next_is_done : IsNext (done_at t) from (length t.sent) result
       next_is_done = record {

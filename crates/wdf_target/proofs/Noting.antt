@@ -13,12 +13,12 @@ use Rattle.wdf_model.specs.Plans.{declared_ids, target_of}
 use Rattle.wdf_model.specs.declared.entries.Sending.{Sending}
 use Rattle.wdf_model.specs.parts.Targets.{Target, Targets, no_target, opening_target, opening_targets, routine_outcome, the_target}
 use Rattle.wdf_maps.specs.Places.{entry_of}
-use Rattle.wdf_maps.proofs.Passing.{any_among}
+use Rattle.wdf_maps.proofs.Passing.{any_among, filter_among}
 use Rattle.wdf_sets.specs.Members.{is_in, members}
 use Rattle.wdf_sets.specs.Nexts.{IsNext, NoneFrom}
 use Rattle.wdf_sets.proofs.Nexts.{found_also}
 use Rattle.wdf_sets.proofs.SetOf.{each_passes, empty_set, entry_kept, entry_written, no_member_is, none_made}
-use Rattle.wdf_target.specs.Finished.{finished_at, has_done, has_finished, is_done_with, is_finished, none_finished, done_at, passes_if}
+use Rattle.wdf_target.specs.Finished.{done_in, finished_at, finished_in, has_done, has_finished, is_done_with, is_finished, none_finished, done_at, passes_if}
 use Rattle.wdf_target.specs.Target.{request_id}
 use Rattle.wdf_target.specs.Targets.{AreNoted, IsKept, is_with}
 use Rattle.wdf_target.proofs.Kept.{found_there}
@@ -82,6 +82,11 @@ module _ (ts : List Target) (hs : List (Option ObjectId)) (kept : IsKept ts hs) 
 
   any_finished : (q : ℕ) → list_any (is_finished whole) (entry no_target ts q).sent ≡ has_done (entry no_target ts q)
   any_finished q = any_among (is_finished whole) (λ (s : Sending). is_done_with (entry no_target ts q) s.request.0) (entry no_target ts q).sent (finished_there q)
+
+  -- a target is done with just those whose completion routine is due
+  pub all_finished : (q : ℕ) → done_in (entry no_target ts q) ≡ finished_in whole q
+  all_finished q =
+      ap (map request_id) (filter_among (λ (s : Sending). is_done_with (entry no_target ts q) s.request.0) (is_finished whole) (entry no_target ts q).sent (λ k s at. sym (finished_there q k s at)))
 
   pub place_finished : (q k : ℕ) → done_at (entry no_target ts q) k ≡ finished_at whole q k
   place_finished q k = by (slice_get (entry no_target ts q).sent k) refl

@@ -1,5 +1,5 @@
 -- The requests that a target is done with and that come back to the driver: their completion routine is due.
-use Rattle.std.specs.Prelude.{ℕ, Bool, false, not, Option, Some, None, is_some, option_and_then, slice_get}
+use Rattle.std.specs.Prelude.{ℕ, Bool, false, not, List, filter, map, Option, Some, None, is_some, option_and_then, slice_get}
 use Rattle.std.specs.List.{list_all, list_any}
 use Rattle.wdf_model.specs.declared.entries.Sending.{Sending}
 use Rattle.wdf_model.specs.parts.Targets.{Target, Targets, routine_due, routine_outcome, the_target}
@@ -14,6 +14,10 @@ is_finished T s = is_some (routine_due T s.request.0)
 -- target t has a request whose completion routine is due
 abbrev pub has_finished : Targets → ℕ → Bool
 has_finished T t = list_any (is_finished T) (the_target T t).sent
+
+-- these requests, by rising id
+abbrev pub finished_in : Targets → ℕ → List ℕ
+finished_in T t = map (λ (s : Sending). s.request.0) (filter (is_finished T) (the_target T t).sent)
 
 -- no target has one
 abbrev pub none_finished : Targets → Bool
@@ -37,6 +41,10 @@ comes_back s = is_some (routine_outcome s)
 -- a target is done with request r, which comes back
 abbrev pub is_done_with : Target → ℕ → Bool
 is_done_with t r = is_some (option_and_then routine_outcome (entry_of (λ (s : Sending). s.request.0) t.sent r))
+
+-- those that it is done with, by rising id
+abbrev pub done_in : Target → List ℕ
+done_in t = map (λ (s : Sending). s.request.0) (filter (λ (s : Sending). is_done_with t s.request.0) t.sent)
 
 -- it is done with some
 abbrev pub has_done : Target → Bool

@@ -1,8 +1,8 @@
-ghost use Rattle.std.specs.Prelude.{◌≡◌, ◌<◌, ◌&&◌, IfOk, MatchOption, None, [], is_some, length, nat_lt, not, slice_get};
+ghost use Rattle.std.specs.Prelude.{◌≡◌, ◌<◌, ◌&&◌, IfOk, MatchOption, None, [], is_some, length, nat_lt, not, option_map, slice_get};
 ghost use Rattle.wdf_model.specs.parts.Targets as targets;
 ghost use Rattle.wdf_maps.specs.Places.{entry_of};
 ghost use Rattle.wdf_sets.specs.Nexts.{IsNext, NoneFrom};
-ghost use Rattle.wdf_target.specs.Finished.{done_at, has_done};
+ghost use Rattle.wdf_target.specs.Finished.{done_at, done_in, has_done};
 ghost use Rattle.wdf_target.specs.Target.{request_id};
 
 use std::alloc::Global;
@@ -163,6 +163,24 @@ impl Target {
         ensures { result ≡ has_done self.now }
     {
         self.done.len() > 0
+    }
+
+    /// How many requests it is done with that come back.
+    pub(crate) fn done_len(&self) -> u32
+        ensures { result ≡ length (done_in self.now) }
+    {
+        self.done.len()
+    }
+
+    /// The k-th of these, by rising id from 0; `None` exactly where there are fewer.
+    pub(crate) fn nth_done(&self, k: u32) -> Option<ObjectId>
+        ensures { option_map (λ r. r.0) result ≡ slice_get (done_in self.now) k }
+    {
+        if k < self.done.len() {
+            Some(self.done.at(k).request)
+        } else {
+            None
+        }
     }
 
     /// The first place from one on, by rising id from 0, of a request that it is done with and that comes back.

@@ -1,8 +1,8 @@
-ghost use Rattle.std.specs.Prelude.{◌≡◌, ℕ, ◌+◌, ◌<◌, IfOk, MatchOption, None, Some, false, if◌then◌else◌, is_some, length, slice_get, slice_set};
+ghost use Rattle.std.specs.Prelude.{◌≡◌, ℕ, ◌+◌, ◌<◌, IfOk, MatchOption, None, Some, false, if◌then◌else◌, is_some, length, option_map, slice_get, slice_set};
 ghost use Rattle.wdf_model.specs.Tables.{entry};
 ghost use Rattle.wdf_model.specs.parts.Targets as targets;
 ghost use Rattle.wdf_sets.specs.Nexts.{IsNext, NoneFrom};
-ghost use Rattle.wdf_target.specs.Finished.{finished_at, has_done, has_finished, none_finished};
+ghost use Rattle.wdf_target.specs.Finished.{finished_at, finished_in, has_done, has_finished, none_finished};
 
 use crate::target::Target;
 use std::alloc::Global;
@@ -140,6 +140,26 @@ impl Targets {
         ensures { result ≡ none_finished self.now }
     {
         self.with_done.len() == 0
+    }
+
+    /// How many requests a target has whose completion routine is due.
+    pub fn finished_len(&self, t: ObjectId) -> u32
+        ensures { result ≡ length (finished_in self.now t.0) }
+    {
+        match self.targets.get(t.0 as usize) {
+            Some(target) => target.done_len(),
+            None => 0,
+        }
+    }
+
+    /// The k-th of these, by rising id from 0; `None` exactly where there are fewer.
+    pub fn nth_finished(&self, t: ObjectId, k: u32) -> Option<ObjectId>
+        ensures { option_map (λ r. r.0) result ≡ slice_get (finished_in self.now t.0) k }
+    {
+        match self.targets.get(t.0 as usize) {
+            Some(target) => target.nth_done(k),
+            None => None,
+        }
     }
 
     /// The first place from one on, by rising id from 0, of what a target has whose completion routine is due. It doesn't look at

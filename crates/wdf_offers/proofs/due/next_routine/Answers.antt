@@ -1,11 +1,10 @@
 -- Where the target isn't done with a request, its completion routine isn't due.
-use Rattle.std.proofs.Common.{ℕ, Bool, ◌<◌, ◌≤◌, sym, ◌∙◌, arith}
+use Rattle.std.proofs.Common.{arith}
 use Rattle.wdf_base.specs.declared.rank.Rank.TheVariants as rank
-use Rattle.wdf_model.specs.parts.Targets.{pending}
 use Rattle.wdf_target.specs.Finished.{finished_at}
 use Rattle.wdf_offers.specs.Idle.{is_due_at}
 use Rattle.wdf_offers.proofs.AtRest.{undue_at}
-use Rattle.wdf_offers.proofs.Wider.{next_is, none_past, none_up_to, none_within}
+use Rattle.wdf_offers.proofs.Wider.{none_up_to}
 use Rattle.wdf_offers.proofs.due.next_routine.Goals as goal
 
 pub returns-in-None : goal.returns-in-None

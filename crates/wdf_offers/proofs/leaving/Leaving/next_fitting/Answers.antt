@@ -1,8 +1,5 @@
 -- As many fit before it as before the id that it is looked for from.
-use Rattle.std.proofs.Common.{ℕ, ◌≡◌, Option, Some, None, MatchOption, length, filter, slice_get, option_map, ap, sym, ◌∙◌}
-use Rattle.std.specs.List.{range_with_len}
-use Rattle.wdf_base.specs.declared.ids.ObjectId.{ObjectId}
-use Rattle.wdf_sets.specs.Nexts.{IsNext, NoneFrom}
+use Rattle.std.proofs.Common.{length, slice_get, ap, ◌∙◌}
 use Rattle.wdf_offers.specs.Leaving.{fits_part, fitting}
 use Rattle.wdf_offers.proofs.Numbered.{next_fits}
 use Rattle.wdf_offers.proofs.leaving.Leaving.next_fitting.Goals as goal

@@ -1,5 +1,5 @@
 -- What doesn't fit isn't kept back, nor is what isn't busy.
-use Rattle.std.proofs.Common.{◌<◌, ◌≤◌, length, sym, ◌∙◌, arith}
+use Rattle.std.proofs.Common.{◌<◌, length, sym, ◌∙◌, arith}
 use Rattle.wdf_model.specs.declared.room.TheConstants.{OBJECTS}
 use Rattle.wdf_sets.specs.Nexts.{NoneFrom}
 use Rattle.wdf_offers.specs.Leaving.{fits_part, is_busy, is_kept}

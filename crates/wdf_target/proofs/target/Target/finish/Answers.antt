@@ -40,8 +40,8 @@ invariant_of-self c =
       objects = rw c.put.ensures.entries (rises_with_entry request_id OBJECTS finished c.self.inside.sent.entries (omega arith) c.self.invariant.objects);
       room = c.put.ensures.room ∙ c.self.invariant.room;
       done = c.put-2.ensures.entries
-        ∙ ap (with_entry request_id finished) c.self.invariant.done
-        ∙ sym (ap (filter comes_back) c.put.ensures.entries ∙ passing_with_passing request_id comes_back OBJECTS finished c.self.inside.sent.entries c.self.invariant.objects on);
+          ∙ ap (with_entry request_id finished) c.self.invariant.done
+          ∙ sym (ap (filter comes_back) c.put.ensures.entries ∙ passing_with_passing request_id comes_back OBJECTS finished c.self.inside.sent.entries c.self.invariant.objects on);
       done_room = c.put-2.ensures.room ∙ c.self.invariant.done_room ∙ sym c.put.ensures.room;
     }
 
