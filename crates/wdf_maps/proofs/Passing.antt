@@ -59,14 +59,6 @@ any_among p q (x ∷ xs) e =
     let rest : list_any p xs ≡ list_any q xs = any_among p q xs (λ k y at. e (suc k) y at) in
     rw (first, rest) refl
 
--- so the same items pass
-pub filter_among : {T : Type 0} (p q : T → Bool) (xs : List T) → ((k : ℕ) (x : T) → slice_get xs k ≡ Some x → p x ≡ q x) → filter p xs ≡ filter q xs
-filter_among p q [] e = refl
-filter_among p q (x ∷ xs) e =
-    let first : p x ≡ q x = e 0 x refl in
-    let rest : filter p xs ≡ filter q xs = filter_among p q xs (λ k y at. e (suc k) y at) in
-    rw (first, rest) refl
-
 module _ {T : Type 0} (key : T → ℕ) where
   entry_first : (x y : T) (xs : List T) (b : Bool) → (key x == key y) ≡ b → (b ≡ true → x ≡ y) → entry_of key xs (key y) ≡ Some y → (if b then Some x else entry_of key xs (key y)) ≡ Some y
   entry_first x y xs true e same rest = ap Some (same refl)

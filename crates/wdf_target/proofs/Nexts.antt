@@ -1,5 +1,5 @@
 -- Which requests a target is done with: by what is kept of each, and the next of them from a place on.
-use Rattle.std.proofs.Common.{ℕ, ◌≡◌, ◌<◌, ◌≤◌, ◌⊎◌, inl, inr, nat_lt, Bool, true, false, length, filter, map, Option, Some, None, is_some, slice_get, slice_index_or, refl, sym, ap, ◌∙◌, arith}
+use Rattle.std.proofs.Common.{ℕ, suc, ◌≡◌, ◌<◌, ◌≤◌, ◌⊎◌, inl, inr, nat_lt, Bool, true, false, List, [], ◌∷◌, length, filter, map, Option, Some, None, is_some, slice_get, slice_index_or, refl, sym, ap, ◌∙◌, arith}
 use Rattle.std.specs.Prelude.{option_and_then}
 use Rattle.std.proofs.lemmas.Bool.{cases_lt}
 use Rattle.std.proofs.lemmas.Option.{slice_get-get_or, slice_get_within}
@@ -7,11 +7,19 @@ use Rattle.wdf_base.proofs.Tests.{in_filter}
 use Rattle.wdf_model.specs.declared.entries.Sending.{Sending}
 use Rattle.wdf_model.specs.parts.Targets.{Target, routine_outcome}
 use Rattle.wdf_maps.specs.Places.{SplitsAt, rises}
-use Rattle.wdf_maps.proofs.Passing.{Among, among_all, among_passing, any_among, entry_at_place, filter_among, keys_grow, passing_rise, some_pass}
+use Rattle.wdf_maps.proofs.Passing.{Among, among_all, among_passing, any_among, entry_at_place, keys_grow, passing_rise, some_pass}
 use Rattle.wdf_maps.proofs.PlacesOfKeys.{keys_rise}
 use Rattle.wdf_sets.specs.Nexts.{IsNext, NoneFrom}
 use Rattle.wdf_target.specs.Finished.{comes_back, done_at, done_in, has_done, is_done_with, passes_if}
 use Rattle.wdf_target.specs.Target.{request_id}
+
+-- where another test answers the same of each item of a list, the same items pass
+pub filter_among : {T : Type 0} (p q : T → Bool) (xs : List T) → ((k : ℕ) (x : T) → slice_get xs k ≡ Some x → p x ≡ q x) → filter p xs ≡ filter q xs
+filter_among p q [] e = refl
+filter_among p q (x ∷ xs) e =
+    let first : p x ≡ q x = e 0 x refl in
+    let rest : filter p xs ≡ filter q xs = filter_among p q xs (λ k y at. e (suc k) y at) in
+    rw (first, rest) refl
 
 module _ (t : Target) (high : ℕ) (rising : rises request_id 0 high t.sent ≡ true) where
   -- what is kept of a request that the target has says whether it is done with it

@@ -13,7 +13,7 @@ use Rattle.wdf_model.specs.Plans.{declared_ids, target_of}
 use Rattle.wdf_model.specs.declared.entries.Sending.{Sending}
 use Rattle.wdf_model.specs.parts.Targets.{Target, Targets, no_target, opening_target, opening_targets, routine_outcome, the_target}
 use Rattle.wdf_maps.specs.Places.{entry_of}
-use Rattle.wdf_maps.proofs.Passing.{any_among, filter_among}
+use Rattle.wdf_maps.proofs.Passing.{any_among}
 use Rattle.wdf_sets.specs.Members.{is_in, members}
 use Rattle.wdf_sets.specs.Nexts.{IsNext, NoneFrom}
 use Rattle.wdf_sets.proofs.Nexts.{found_also}
@@ -22,6 +22,7 @@ use Rattle.wdf_target.specs.Finished.{done_in, finished_at, finished_in, has_don
 use Rattle.wdf_target.specs.Target.{request_id}
 use Rattle.wdf_target.specs.Targets.{AreNoted, IsKept, is_with}
 use Rattle.wdf_target.proofs.Kept.{found_there}
+use Rattle.wdf_target.proofs.Nexts.{filter_among}
 
 -- ---- the acts
 
