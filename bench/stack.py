@@ -9,10 +9,8 @@ The app reads 64 to 4,000 times from the top device; each device sends what it g
 it. After 4,096 arrivals in all a connector answers without one, so from the 586th read on most go no further than the top.
 In the runs `together` 100 reads come each 20 ticks, the queues give out 256 requests, and the bottom device keeps each read
 for 10 ticks, so that 100 are sent at once at each level. Beside each run stands the one by `order`, where each target is a
-driver of its own. Aims: an event takes no more than 1.5 times one of `order`, and no more with more reads. In the runs
-`together` an event takes some four times as many instructions, and not by the connectors: up to 800 requests are sent at once,
-and the machine looks for a completion routine among all of them. Figures are the
-processor's seconds, the best of three runs.
+driver of its own. Aims: an event takes no more than 1.5 times one of `order`, and no more with more reads or where they are sent
+together. Figures are the processor's seconds, the best of three runs.
 """
 
 import sys

@@ -149,6 +149,13 @@ def stops(count):
     return text + "app A\n" + "at 1 read D 16\n" * count + "end\npnp\nat 0 start D\nat 9 sleep D\nend\n"
 
 
+def sent(count):
+    """Requests that are sent to a target, which is done with all at one tick: EvtRequestCompletion is due for each."""
+    text = machine.opening() + HEAD + "queue Q parallel 1024\ndefault\non EvtIoDefault\ncall WdfRequestSend request T 0\nend\nend\n"
+    text += "target T 10 SUCCESS 256\non EvtRequestCompletion\ncall WdfRequestComplete request status\nend\nend\nend\n"
+    return text + "app A\n" + "at 0 read D 16\n" * count + "end\n"
+
+
 def resumes(count):
     """Reads of a queue that declares EvtIoResume, which is never due."""
     return machine.reads(count).replace("default\n", "default\non EvtIoResume\nend\n", 1)
@@ -191,6 +198,7 @@ KINDS = {
     "returning": (returns, (255, 510, 1020)),
     "stops": (stops, (255, 510, 1020)),
     "resumes": (resumes, (255, 510, 1020)),
+    "sent": (sent, (64, 128, 256)),
 }
 
 

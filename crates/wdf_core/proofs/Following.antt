@@ -57,8 +57,8 @@ module _ {A : Type 0} (m : Meaning A) (plan : Plan) (journal : List Event) (S : 
       (at_the_end plan m (λ (T : State A). StepsOwned plan T) journal (steps_owned_at_each plan m journal u.run (length journal)))
 
   -- no request of an app is deleted that isn't completed, and nothing to which a request is sent; what is queued as a work item
-  -- or as a timer is live and has its callback; and each request is noted as held from the power-managed queue from which the
-  -- driver holds it
+  -- or as a timer is live and has its callback; each request is noted as held from the power-managed queue from which the
+  -- driver holds it; and a target has just what is sent to it
   pub settled_now : IsSettled plan S
   settled_now =
       let T : State A = state_after plan m journal in
@@ -75,6 +75,7 @@ module _ {A : Type 0} (m : Meaning A) (plan : Plan) (journal : List Event) (S : 
         declared = λ o queued. both_right (is_live (life_of T.tree o)) (declares_in plan T callback.EvtWorkItem o) (w.items o queued);
         timed = λ o queued. both_right (is_live (life_of T.tree o)) (declares_in plan T callback.EvtTimerFunc o) (w.timers o queued);
         holdings = λ r. held.holdings r ∙ noted_by plan (is_with_driver T r) (origin_of T.requests r);
+        sent = (known_now plan m journal u.run).places.sent;
       })
 
   -- ---- beside ticks

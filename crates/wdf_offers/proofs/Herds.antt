@@ -34,7 +34,7 @@ use Rattle.wdf_request.specs.Keys.{is_due_sent, returning_queue}
 use Rattle.wdf_power.specs.ForQueues.{resuming_queue, unasked_queue}
 use Rattle.wdf_offers.specs.declared.for_requests.Herd.{Herd}
 use Rattle.wdf_offers.specs.declared.for_requests.Herd.TheVariants as herd
-use Rattle.wdf_offers.specs.ForRequests.{IsExact, can_be, counted, due_for, herd_group, is_counted, is_due_for, may_begin, rank_of, whole}
+use Rattle.wdf_offers.specs.ForRequests.{IsExact, begins_on, can_be, counted, due_for, herd_group, is_counted, is_due_for, may_begin, rank_of, whole}
 use Rattle.wdf_offers.specs.Idle.{settles_next}
 use Rattle.wdf_offers.specs.Search.{offered, offered_from}
 use Rattle.wdf_offers.proofs.Begins.{start_parts_for}
@@ -256,7 +256,7 @@ whole_is herd.Resume S q many = all_pass (whole_test herd.Resume S) (is_counted 
 
 -- ---- what is offered
 
-parts : (a e l v f k y : Bool) → (a && (e && l && v && f && (k && y))) ≡ ((a && true && e && l && v && f && k) && y)
+parts : (a e l v f k y : Bool) → (a && (e && l && v && f && (k && y))) ≡ ((true && (a && e && l && v && f) && k) && y)
 parts false e l v f k y = refl
 parts true false l v f k y = refl
 parts true true false v f k y = refl
@@ -264,18 +264,10 @@ parts true true true false f k y = refl
 parts true true true true false k y = refl
 parts true true true true true k y = refl
 
-declared_by : (a d e l v f k : Bool) → (a && d && e && l && v && f && k) ≡ true → (d ≡ true) × (k ≡ true)
-declared_by a d e l v f k h =
-    let five = both_left (a && d && e && l && v && f) k h in
-    let four = both_left (a && d && e && l && v) f five in
-    let three = both_left (a && d && e && l) v four in
-    let two = both_left (a && d && e) l three in
-    let one = both_left (a && d) e two in (
-      both_right a d one,
-      both_right (a && d && e && l && v && f) k h,
-    )
+declared_by : (d b k : Bool) → (d && b && k) ≡ true → (d ≡ true) × (k ≡ true)
+declared_by d b k h = (both_left d b (both_left (d && b) k h), both_right (d && b) k h)
 
-none_mapped : (f : ℕ → Option Event) → ((x : ℕ) → f x ≡ None) → (xs : List ℕ) → filter_map f xs ≡ []
+pub none_mapped : (f : ℕ → Option Event) → ((x : ℕ) → f x ≡ None) → (xs : List ℕ) → filter_map f xs ≡ []
 none_mapped f e [] = refl
 none_mapped f e (x ∷ xs) = ap (λ o. cons_option o (filter_map f xs)) (e x) ∙ none_mapped f e xs
 
@@ -308,9 +300,7 @@ module _ {A : Type 0} (plan : Plan) (m : Meaning A) (S : State A) (cpu q : ℕ) 
         sym (start_parts_for plan m S cpu c q r)
         ∙ ap (λ b. is_cpu plan (cpu_of cpu) && (declares_in plan S c q && life_fits S c q && level_fits S cpu (callback_irql plan c q) && is_free_if_any S.locks (lock_of_callback plan c q (declared_in plan S q)) && b)) (ready_is h r ∙ exact.due r)
         ∙ parts (is_cpu plan (cpu_of cpu)) (declares_in plan S c q) (life_fits S c q) (level_fits S cpu (callback_irql plan c q)) (is_free_if_any S.locks (lock_of_callback plan c q (declared_in plan S q))) (can_be plan S h q) (is_counted h S q r)
-        ∙ ap (λ b.
-        (is_cpu plan (cpu_of cpu) && b && declares_in plan S c q && life_fits S c q && level_fits S cpu (callback_irql plan c q) && is_free_if_any S.locks (lock_of_callback plan c q (declared_in plan S q)) && can_be plan S h q)
-        && is_counted h S q r) (sym told)
+        ∙ ap (λ b. (b && begins_on plan S cpu c q && can_be plan S h q) && is_counted h S q r) (sym told)
 
     whole_range : (n : ℕ) → n - 0 ≡ n
     whole_range n = omega arith
@@ -331,9 +321,7 @@ module _ {A : Type 0} (plan : Plan) (m : Meaning A) (S : State A) (cpu q : ℕ) 
         (whole_range (places_in plan S (herd_group h cpu q)) ∙ places_are h ∙ ap (λ b. places_if b (length S.requests.all)) told)
 
     pub begins : may_begin plan S h cpu q ≡ true → (declares plan (callback_for (rank_of h)) q ≡ true) × (can_be plan S h q ≡ true)
-    begins on =
-        let c = callback_for (rank_of h) in
-        declared_by (is_cpu plan (cpu_of cpu)) (declares plan c q) (declares_in plan S c q) (life_fits S c q) (level_fits S cpu (callback_irql plan c q)) (is_free_if_any S.locks (lock_of_callback plan c q (declared_in plan S q))) (can_be plan S h q) on
+    begins on = let c = callback_for (rank_of h) in declared_by (declares plan c q) (begins_on plan S cpu c q) (can_be plan S h q) on
 
     gives : may_begin plan S h cpu q ≡ true → (r : ℕ) → offered plan m S (herd_group h cpu q) r ≡ (if is_due_for plan S h q r then Some (start h r) else None)
     gives on r =

@@ -343,7 +343,7 @@ at_end : {T : Type 0} (ys : List T) (x : T) (xs : List T) → slice_get (ys ++ x
 at_end [] x xs = refl
 at_end (y ∷ ys) x xs = at_end ys x xs
 
-listed : {T : Type 0} (f : Option T → Option Event) (ys xs : List T) → filter_map (λ k. f (slice_get (ys ++ xs) k)) (range_with_len (length ys) (length xs)) ≡ filter_map (λ (x : T). f (Some x)) xs
+pub listed : {T : Type 0} (f : Option T → Option Event) (ys xs : List T) → filter_map (λ k. f (slice_get (ys ++ xs) k)) (range_with_len (length ys) (length xs)) ≡ filter_map (λ (x : T). f (Some x)) xs
 listed f ys [] = refl
 listed {T} f ys (x ∷ xs) =
     let one_more : length (ys ++ x ∷ []) ≡ length ys + 1 = length-append ys (x ∷ []) in

@@ -15,5 +15,6 @@ pub mod Leavers
 mod ComingBack
 pub mod Herds
 pub mod HerdWalk
+mod Routines
 mod AtRest
 mod NoneAhead

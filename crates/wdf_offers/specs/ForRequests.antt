@@ -2,6 +2,7 @@
 -- wait for. (own)
 use Rattle.std.specs.Prelude.{ℕ, ◌≡◌, Bool, true, ◌&&◌, List, filter, Option, Some, None}
 use Rattle.wdf_base.specs.Places.{is_returning_to}
+use Rattle.wdf_base.specs.declared.call.Callback.{Callback}
 use Rattle.wdf_base.specs.declared.plan.Plan.{Plan}
 use Rattle.wdf_base.specs.declared.rank.Rank.{Rank}
 use Rattle.wdf_base.specs.declared.rank.Rank.TheVariants as rank
@@ -83,12 +84,15 @@ abbrev pub can_be : {A : Type 0} → Plan → State A → Herd → ℕ → Bool
 can_be plan S herd.Stop q = is_stopping plan S q
 can_be plan S _ q = true
 
--- it may start on a queue, on a processor, for each request for which it is due
+-- a callback may start on an object, on a processor, for each request for which it is due
+abbrev pub begins_on : {A : Type 0} → Plan → State A → ℕ → Callback → ℕ → Bool
+begins_on plan S cpu c o =
+    is_cpu plan (cpu_of cpu) && declares_in plan S c o && life_fits S c o && level_fits S cpu (callback_irql plan c o)
+    && is_free_if_any S.locks (lock_of_callback plan c o (declared_in plan S o))
+
+-- so it may on a queue
 abbrev pub may_begin : {A : Type 0} → Plan → State A → Herd → ℕ → ℕ → Bool
-may_begin plan S h cpu q =
-    is_cpu plan (cpu_of cpu) && declares plan (callback_for (rank_of h)) q && declares_in plan S (callback_for (rank_of h)) q
-    && life_fits S (callback_for (rank_of h)) q && level_fits S cpu (callback_irql plan (callback_for (rank_of h)) q)
-    && is_free_if_any S.locks (lock_of_callback plan (callback_for (rank_of h)) q (declared_in plan S q)) && can_be plan S h q
+may_begin plan S h cpu q = declares plan (callback_for (rank_of h)) q && begins_on plan S cpu (callback_for (rank_of h)) q && can_be plan S h q
 
 -- It is due for just those requests that are counted for the queue, where it can be.
 pub record IsExact {A : Type 0} (plan : Plan) (S : State A) (h : Herd) (q : ℕ) : Type 0 where

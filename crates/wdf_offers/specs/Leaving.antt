@@ -1,6 +1,6 @@
 -- How objects leave, by a cleanup or by their end, how a work item leaves its queue and a timer fires, as its callback starts:
 -- which may by one part alone, what keeps others back, and which may. (own)
-use Rattle.std.specs.Prelude.{ℕ, ◌≡◌, Bool, true, false, not, ◌==◌, ◌&&◌, ◌||◌, List, None, filter, length}
+use Rattle.std.specs.Prelude.{ℕ, ◌≡◌, Bool, true, false, not, ◌==◌, ◌&&◌, ◌||◌, List, None, count_by, filter, length}
 use Rattle.std.specs.List.{list_any}
 use Rattle.wdf_base.specs.declared.call.Callback.TheVariants as callback
 use Rattle.wdf_base.specs.declared.event.Event.{Event}
@@ -13,8 +13,9 @@ use Rattle.wdf_base.specs.declared.plan.Plan.{Plan}
 use Rattle.wdf_base.specs.declared.rank.Rank.TheVariants as rank
 use Rattle.wdf_base.specs.Same.{same_kind}
 use Rattle.wdf_base.specs.Lives.{is_live}
-use Rattle.wdf_base.specs.Places.{is_done}
-use Rattle.wdf_model.specs.Tables.{ids_of}
+use Rattle.wdf_base.specs.Places.{is_done, is_sent_to}
+use Rattle.wdf_model.specs.Tables.{flag, ids_of}
+use Rattle.wdf_model.specs.declared.entries.Sending.{Sending}
 use Rattle.wdf_model.specs.declared.enums.Group.{Group}
 use Rattle.wdf_model.specs.declared.enums.Group.TheVariants as group
 use Rattle.wdf_model.specs.Ids.{cpu_of}
@@ -25,6 +26,7 @@ use Rattle.wdf_model.specs.parts.Deferred.WorkItems.{is_work_queued}
 use Rattle.wdf_model.specs.parts.Tree.{kind_of, life_of, may_clean, may_destroy}
 use Rattle.wdf_model.specs.parts.Power.{holding_of}
 use Rattle.wdf_model.specs.parts.Requests.{place_of}
+use Rattle.wdf_model.specs.parts.Targets.{the_target}
 use Rattle.wdf_model.specs.rules.Starts.{callback_over, clean_ready, destroy_ready, level_fits}
 use Rattle.wdf_model.specs.rules.Steps.{is_cpu}
 use Rattle.wdf_cpu.specs.Occupied.{is_awaited, is_occupied}
@@ -107,10 +109,11 @@ pub record DeletedSettled {A : Type 0} (S : State A) : Type 0 where
   pub works : (o : ℕ) → is_work_queued S.work_items o ≡ true → is_live (life_of S.tree o) ≡ true
   pub timers : (o : ℕ) → is_timer_queued S.timers o ≡ true → is_live (life_of S.tree o) ≡ true
 
--- The same, and what is queued has its callback; and power notes each request as held from the power-managed queue from which
--- the driver holds it.
+-- The same, and what is queued has its callback; power notes each request as held from the power-managed queue from which
+-- the driver holds it; and a target has a request once where that is sent to it, else never.
 pub record IsSettled {A : Type 0} (plan : Plan) (S : State A) : Type 0 where
   pub deleted : DeletedSettled S
   pub declared : (o : ℕ) → is_work_queued S.work_items o ≡ true → declares_in plan S callback.EvtWorkItem o ≡ true
   pub timed : (o : ℕ) → is_timer_queued S.timers o ≡ true → declares_in plan S callback.EvtTimerFunc o ≡ true
   pub holdings : (r : ℕ) → (holding_of S.power r).queue.0 ≡ holding_queue plan S r
+  pub sent : (t r : ℕ) → count_by (λ (s : Sending). s.request.0 == r) (the_target S.targets t).sent ≡ flag (is_sent_to t (place_of S.requests r))

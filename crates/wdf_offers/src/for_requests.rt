@@ -5,7 +5,7 @@ ghost use Rattle.wdf_model.specs.State.{declared_in};
 ghost use Rattle.wdf_model.specs.parts.Locks.{is_free_if_any, lock_of_callback};
 ghost use Rattle.wdf_model.specs.rules.Groups as groups;
 ghost use Rattle.wdf_offers.specs.ForRequests as herds;
-ghost use Rattle.wdf_offers.specs.ForRequests.{IsExact, counted, due_for, herd_group, may_begin, rank_of, whole};
+ghost use Rattle.wdf_offers.specs.ForRequests.{IsExact, begins_on, counted, due_for, herd_group, may_begin, rank_of, whole};
 ghost use Rattle.wdf_offers.specs.Leaving.{IsSettled};
 ghost use Rattle.wdf_offers.specs.Search as search;
 
@@ -44,21 +44,38 @@ pub fn herd_of(rank: Rank) -> Option<Herd>
     }
 }
 
-/// Whether the lock that a callback of a queue takes at its start is free, where it takes one.
+/// Whether the lock that a callback of an object takes at its start is free, where it takes one.
 fn lock_is_free<A: Agent>(
     plan: &IndexedPlan,
     parts: &Parts<A>,
     callback: Callback,
-    q: ObjectId,
+    o: ObjectId,
 ) -> bool
-    ensures { result ≡ is_free_if_any parts.now.locks (lock_of_callback plan.now callback q.0 (declared_in plan.now parts.now q.0)) }
+    ensures { result ≡ is_free_if_any parts.now.locks (lock_of_callback plan.now callback o.0 (declared_in plan.now parts.now o.0)) }
 {
     parts.locks().is_free_if_any(lock_of_callback(
         plan.plan(),
         callback,
-        q,
-        parts.declared_in(plan, q),
+        o,
+        parts.declared_in(plan, o),
     ))
+}
+
+/// Whether a callback may start on an object, on a processor, for each request for which it is due.
+pub(crate) fn begins_on<A: Agent>(
+    plan: &IndexedPlan,
+    parts: &Parts<A>,
+    cpu: Cpu,
+    callback: Callback,
+    o: ObjectId,
+) -> bool
+    ensures { result ≡ begins_on plan.now parts.now cpu.0 callback o.0 }
+{
+    is_cpu(plan, cpu)
+        && parts.declares_in(plan, callback, o)
+        && life_fits(parts, callback, o)
+        && level_fits(parts, cpu, plan.callback_irql(callback, o))
+        && lock_is_free(plan, parts, callback, o)
 }
 
 impl Herd {
@@ -152,12 +169,8 @@ impl Herd {
         ensures { result ≡ may_begin plan.now parts.now self cpu.0 q.0 }
     {
         let callback = self.callback();
-        is_cpu(plan, cpu)
-            && plan.declares(callback, q)
-            && parts.declares_in(plan, callback, q)
-            && life_fits(parts, callback, q)
-            && level_fits(parts, cpu, plan.callback_irql(callback, q))
-            && lock_is_free(plan, parts, callback, q)
+        plan.declares(callback, q)
+            && begins_on(plan, parts, cpu, callback, q)
             && self.can_be(plan, parts, q)
     }
 

@@ -12,6 +12,7 @@ mod leaving;
 mod parked;
 mod posts;
 mod resting;
+mod routines;
 mod started;
 
 pub use ahead::next_object;
@@ -30,4 +31,5 @@ pub use leaving::{Leaving, numbered_at, numbered_len};
 pub use parked::{coming_at, coming_len, is_counted};
 pub use posts::{post_offered, posts_at, posts_len};
 pub use resting::rests;
+pub use routines::{routine_at, routines_len};
 pub use started::start_offered;

@@ -14,7 +14,8 @@ use wdf_offers::{
     Leaving, cleanup_offered, coming_at, coming_len, completion_at, completion_offered,
     completions_len, end_offered, herd_at, herd_len, herd_of, is_counted, is_idle, next_due,
     next_startable, numbered_at, numbered_len, own_at, own_len, park_at, park_len, parks,
-    places_in, post_offered, posts_at, posts_len, stage_at, start_for, start_offered, unparks,
+    places_in, post_offered, posts_at, posts_len, routine_at, routines_len, stage_at, start_for,
+    start_offered, unparks,
 };
 use wdf_parts::Parts;
 use wdf_plan_index::IndexedPlan;
@@ -192,7 +193,7 @@ fn unparks_at<A: Agent>(
 }
 
 /// How many starts of a rank may come on a processor for the requests of an object. They are counted without a search where
-/// just those may come that are counted for it.
+/// just those may come that are counted for it, as always of completion routines.
 pub(crate) fn starts_for_len<A: Agent>(
     plan: &IndexedPlan,
     parts: &Parts<A>,
@@ -205,6 +206,9 @@ pub(crate) fn starts_for_len<A: Agent>(
     ensures length { result ≡ length (search.offered_from plan.now A.meaning parts.now (group.StartsFor cpu rank object) 0) }
     ensures small { result ≤ 2 ^ 32 }
 {
+    if let Rank::Completion = rank {
+        return routines_len(plan, parts, Cpu(cpu), ObjectId(object));
+    }
     if let Some(herd) = herd_of(rank) {
         if herd.is_exact(plan, parts, ObjectId(object)) {
             return herd_len(plan, parts, herd, Cpu(cpu), ObjectId(object));
@@ -227,6 +231,9 @@ pub(crate) fn starts_for_at<A: Agent>(
     ensures { MatchResult result (λ event. slice_get (search.offered_from plan.now A.meaning parts.now (group.StartsFor cpu rank object) 0) k ≡ Some event)
         (λ rest. length (search.offered_from plan.now A.meaning parts.now (group.StartsFor cpu rank object) 0) + rest ≡ k) }
 {
+    if let Rank::Completion = rank {
+        return routine_at(plan, parts, Cpu(cpu), ObjectId(object), k);
+    }
     if let Some(herd) = herd_of(rank) {
         if herd.is_exact(plan, parts, ObjectId(object)) {
             return herd_at(plan, parts, herd, Cpu(cpu), ObjectId(object), k);
