@@ -51,7 +51,7 @@ fails_with false w part h = refl
 settles_none : (P : Pnp) (d : ℕ) → none_stepping P ≡ true → same_option same_step (next_step P d) (Some (step.Pass stage.Settled None)) ≡ false
 settles_none P d h = ap (λ ss. same_option same_step (first_of_list ss) (Some (step.Pass stage.Settled None))) (at_rest P d h)
 
--- where a target isn't done with a request, or that is forgotten, its completion routine isn't due
+-- where the target doesn't say of a request that its completion routine is due, it isn't
 module _ {A : Type 0} (plan : Plan) (S : State A) (t : ℕ) where
   undue_by : (s : Option Sending) → passes_if (is_finished S.targets) s ≡ false → is_sending_due plan S t s ≡ false
   undue_by None h = refl
@@ -60,7 +60,7 @@ module _ {A : Type 0} (plan : Plan) (S : State A) (t : ℕ) where
   pub undue_at : (k : ℕ) → finished_at S.targets t k ≡ false → is_due_at plan S rank.Completion t k ≡ false
   undue_at k h = undue_by (slice_get (the_target S.targets t).sent k) h
 
--- so nothing may come of the completion routines of a target that is done with none that comes back
+-- so nothing may come of the completion routines of a target that says so of none
 pub unfinished_off : {A : Type 0} (plan : Plan) (m : Meaning A) (S : State A) (cpu t : ℕ) → has_finished S.targets t ≡ false → offered_from plan m S (group.StartsFor cpu rank.Completion t) 0 ≡ []
 unfinished_off plan m S cpu t h =
     nothing_there plan m S (group.StartsFor cpu rank.Completion t) (λ k. not_due plan m S cpu rank.Completion t k (undue_at plan S t k (unfinished_at S.targets t k h)))

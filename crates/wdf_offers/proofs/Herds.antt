@@ -267,6 +267,9 @@ parts true true true true true k y = refl
 declared_by : (d b k : Bool) → (d && b && k) ≡ true → (d ≡ true) × (k ≡ true)
 declared_by d b k h = (both_left d b (both_left (d && b) k h), both_right (d && b) k h)
 
+pub whole_range : (n : ℕ) → n - 0 ≡ n
+whole_range n = omega arith
+
 pub none_mapped : (f : ℕ → Option Event) → ((x : ℕ) → f x ≡ None) → (xs : List ℕ) → filter_map f xs ≡ []
 none_mapped f e [] = refl
 none_mapped f e (x ∷ xs) = ap (λ o. cons_option o (filter_map f xs)) (e x) ∙ none_mapped f e xs
@@ -301,9 +304,6 @@ module _ {A : Type 0} (plan : Plan) (m : Meaning A) (S : State A) (cpu q : ℕ) 
         ∙ ap (λ b. is_cpu plan (cpu_of cpu) && (declares_in plan S c q && life_fits S c q && level_fits S cpu (callback_irql plan c q) && is_free_if_any S.locks (lock_of_callback plan c q (declared_in plan S q)) && b)) (ready_is h r ∙ exact.due r)
         ∙ parts (is_cpu plan (cpu_of cpu)) (declares_in plan S c q) (life_fits S c q) (level_fits S cpu (callback_irql plan c q)) (is_free_if_any S.locks (lock_of_callback plan c q (declared_in plan S q))) (can_be plan S h q) (is_counted h S q r)
         ∙ ap (λ b. (b && begins_on plan S cpu c q && can_be plan S h q) && is_counted h S q r) (sym told)
-
-    whole_range : (n : ℕ) → n - 0 ≡ n
-    whole_range n = omega arith
 
     from_is : declares plan (callback_for (rank_of h)) q ≡ true → offered_from plan m S (herd_group h cpu q) 0 ≡ filter_map (offered plan m S (herd_group h cpu q)) (ids_of S.requests.all)
     from_is told =

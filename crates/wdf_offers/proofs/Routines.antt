@@ -10,7 +10,7 @@ use Rattle.wdf_base.specs.declared.plan.Plan.{Plan}
 use Rattle.wdf_base.specs.declared.rank.Rank.TheVariants as rank
 use Rattle.wdf_model.specs.Ids.{cpu_of}
 use Rattle.wdf_model.specs.Plans.{callback_irql}
-use Rattle.wdf_model.specs.State.{State, declared_in, declares_in, handle_in}
+use Rattle.wdf_model.specs.State.{State, declared_in, declares_in}
 use Rattle.wdf_model.specs.Tables.{flag}
 use Rattle.wdf_model.specs.declared.entries.Sending.{Sending}
 use Rattle.wdf_model.specs.declared.enums.Group.TheVariants as group
@@ -21,16 +21,14 @@ use Rattle.wdf_model.specs.rules.Groups.{places_in, starts_for}
 use Rattle.wdf_model.specs.rules.Starts.{level_fits, life_fits}
 use Rattle.wdf_model.specs.rules.Steps.{is_cpu, may}
 use Rattle.wdf_model.proofs.Counts.{count_cons}
-use Rattle.wdf_target.specs.Finished.{finished_in, is_finished}
+use Rattle.wdf_target.specs.Finished.{finished_in}
+use Rattle.wdf_target.specs.Target.{request_id}
 use Rattle.wdf_offers.specs.ForRequests.{begins_on}
 use Rattle.wdf_offers.specs.Leaving.{IsSettled}
 use Rattle.wdf_offers.specs.Search.{if_allowed, offered, offered_from}
 use Rattle.wdf_offers.proofs.Begins.{start_parts_for}
-use Rattle.wdf_offers.proofs.Herds.{none_mapped}
+use Rattle.wdf_offers.proofs.Herds.{none_mapped, whole_range}
 use Rattle.wdf_offers.proofs.Leavers.{listed, mapped_at, mapped_len}
-
-request_id : Sending → ℕ
-request_id s = s.request.0
 
 -- ---- a target has what is sent to it
 
@@ -109,12 +107,9 @@ module _ {A : Type 0} (plan : Plan) (m : Meaning A) (S : State A) (settled : IsS
       ap (λ b. cons_option (if b then Some (start s.request.0) else None) (filter_map (λ (x : Sending). offered_routine (Some x)) ss)) (each 0 s refl)
       ∙ ap (cons_option (routine_of s.request.0)) (all_routines ss (λ k x at. each (suc k) x at))
 
-  as_many : (n : ℕ) → n - 0 ≡ n
-  as_many n = omega arith
-
   routines_from : offered_from plan m S (group.StartsFor cpu rank.Completion t) 0 ≡ filter_map routine_of (map request_id sent)
   routines_from =
-      ap (λ n. filter_map (offered plan m S (group.StartsFor cpu rank.Completion t)) (range_with_len 0 n)) (as_many (places_in plan S (group.StartsFor cpu rank.Completion t)))
+      ap (λ n. filter_map (offered plan m S (group.StartsFor cpu rank.Completion t)) (range_with_len 0 n)) (whole_range (places_in plan S (group.StartsFor cpu rank.Completion t)))
       ∙ listed offered_routine [] sent ∙ all_routines sent comes
 
   gives : begins ≡ true → (r : ℕ) → routine_of r ≡ (if is_due r then Some (start r) else None)

@@ -31,8 +31,8 @@ abbrev pub may_be_due_on : {A : Type 0} → State A → Option Herd → ℕ → 
 may_be_due_on S None q = true
 may_be_due_on S (Some h) q = has_counted h S q || not (goes_by_counts h S)
 
--- as far as the counts tell, a callback of a rank may be due on an object: a completion routine where the target is done with a
--- request that comes back
+-- as far as the counts tell, a callback of a rank may be due on an object: a completion routine where the target says so of a
+-- request that it has
 abbrev pub may_be_due : {A : Type 0} → State A → Rank → ℕ → Bool
 may_be_due S rank.Completion t = has_finished S.targets t
 may_be_due S r q = may_be_due_on S (herd_of r) q

@@ -90,7 +90,7 @@ begins_on plan S cpu c o =
     is_cpu plan (cpu_of cpu) && declares_in plan S c o && life_fits S c o && level_fits S cpu (callback_irql plan c o)
     && is_free_if_any S.locks (lock_of_callback plan c o (declared_in plan S o))
 
--- so it may on a queue
+-- so may the callback of a herd on a queue that declares it, where it can be due there
 abbrev pub may_begin : {A : Type 0} → Plan → State A → Herd → ℕ → ℕ → Bool
 may_begin plan S h cpu q = declares plan (callback_for (rank_of h)) q && begins_on plan S cpu (callback_for (rank_of h)) q && can_be plan S h q
 

@@ -110,7 +110,7 @@ pub record DeletedSettled {A : Type 0} (S : State A) : Type 0 where
   pub timers : (o : ℕ) → is_timer_queued S.timers o ≡ true → is_live (life_of S.tree o) ≡ true
 
 -- The same, and what is queued has its callback; power notes each request as held from the power-managed queue from which
--- the driver holds it; and a target has a request once where that is sent to it, else never.
+-- the driver holds it; and a target has a request once where that is sent to it, else never (`sent` of `PlacesAgree`).
 pub record IsSettled {A : Type 0} (plan : Plan) (S : State A) : Type 0 where
   pub deleted : DeletedSettled S
   pub declared : (o : ℕ) → is_work_queued S.work_items o ≡ true → declares_in plan S callback.EvtWorkItem o ≡ true

@@ -14,7 +14,7 @@ abbrev pub none_counted : {A : Type 0} → State A → Option Herd → Bool
 none_counted S None = false
 none_counted S (Some h) = length (whole h S) == 0
 
--- The callbacks of a rank are due for no request, as one part says: no target is done with one that comes back, or none is
+-- The callbacks of a rank are due for no request, as one part says: no completion routine is due at any target, or none is
 -- counted for which the callback could be due, for whatever queue. Of EvtIoStop what is counted is held and not yet asked to
 -- stop, and it is due for none also where no device has a step left, so that none is about to pass `settled`.
 abbrev pub none_due : {A : Type 0} → State A → Rank → Bool

@@ -77,8 +77,8 @@ fn next_cancel<A: Agent>(
     None
 }
 
-/// The first place from one on below an end at which the completion routine of what is sent to a target is due. It asks only what
-/// the target is done with.
+/// The first place from one on below an end at which the completion routine of what is sent to a target is due. It asks only
+/// those of which the target says so.
 fn next_routine<A: Agent>(
     plan: &IndexedPlan,
     parts: &Parts<A>,

@@ -1,6 +1,6 @@
 //! Cleanups and destructions by their number, where no callback of theirs is to come, and starts of work items and of
-//! timers, where no lock keeps one back: those that may come by one part alone are counted, and the few that something
-//! else keeps back are taken away.
+//! timers, where no lock keeps one back: those that may come by one part alone are counted, and those that something else
+//! keeps back are taken away.
 ghost use Rattle.std.specs.Prelude.{IsTrue, ◌≡◌, ◌+◌, ◌<◌, ◌≤◌, ◌^◌, ◌&&◌, true, filter, length, option_map, slice_get, MatchOption, MatchResult};
 ghost use Rattle.std.specs.List.{list_any, range_with_len};
 ghost use Rattle.wdf_model.specs.declared.room.TheConstants.{OBJECTS};
@@ -280,8 +280,8 @@ impl Leaving {
         self.fitting_at(parts, self.fitting_before(parts, from))
     }
 
-    /// The first object from an id on below an end that is kept back. It goes from one that fits to the next that something can
-    /// keep back, and on from there, so that it takes no more turns than there are of the fewer.
+    /// The first object from an id on below an end that is kept back. It goes from one that something can keep back, and doesn't, on
+    /// to the next that fits, so that it takes at most one turn more than there are of the fewer.
     fn next_kept<A: Agent>(self, parts: &Parts<A>, from: u32, end: u32) -> Option<u32>
         requires settled { DeletedSettled parts.now }
         requires room { end ≤ OBJECTS }
@@ -290,11 +290,7 @@ impl Leaving {
     {
         let mut at = from;
         'search: while at < end {
-            let fitting = match self.next_fitting(parts, ObjectId(at)) {
-                Some(o) => o,
-                None => return None,
-            };
-            let o = match self.next_busy(parts, fitting) {
+            let o = match self.next_busy(parts, ObjectId(at)) {
                 Some(o) => o,
                 None => return None,
             };
@@ -304,7 +300,10 @@ impl Leaving {
             if self.is_kept_back(parts, o) {
                 return Some(o.0);
             }
-            at = o.0 + 1;
+            at = match self.next_fitting(parts, ObjectId(o.0 + 1)) {
+                Some(fitting) => fitting.0,
+                None => return None,
+            };
         }
         None
     }

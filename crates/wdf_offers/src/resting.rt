@@ -22,9 +22,9 @@ fn none_counted<A: Agent>(parts: &Parts<A>, herd: Option<Herd>) -> bool
     }
 }
 
-/// Whether the callbacks of a rank are due for no request, as one part says: no target is done with one that comes back; or none is
-/// counted for which the callback could be due. Of EvtIoStop what is counted is held and not yet asked to stop, and it is due
-/// for none also where no device has a step left, so that none is about to pass `settled`.
+/// Whether the callbacks of a rank are due for no request, as one part says: no completion routine is due at any target; or none
+/// is counted for which the callback could be due. Of EvtIoStop what is counted is held and not yet asked to stop, and it is
+/// due for none also where no device has a step left, so that none is about to pass `settled`.
 fn none_due<A: Agent>(parts: &Parts<A>, rank: Rank) -> bool
     ensures { result ≡ resting.none_due parts.now rank }
 {

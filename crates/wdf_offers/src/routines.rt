@@ -1,5 +1,5 @@
-//! The starts of the completion routines of a target: it has those that are due by themselves, and what all wait for is tested
-//! once.
+//! The starts of the completion routines of a target. It keeps the requests whose routine is due by themselves, and what all
+//! these starts wait for is tested once.
 ghost use Rattle.std.specs.Prelude.{◌≡◌, ◌+◌, ◌≤◌, ◌^◌, Some, length, slice_get, MatchResult};
 ghost use Rattle.wdf_base.specs.declared.rank.Rank.TheVariants as rank;
 ghost use Rattle.wdf_model.specs.declared.enums.Group.TheVariants as group;

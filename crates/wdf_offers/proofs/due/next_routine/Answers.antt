@@ -1,5 +1,5 @@
--- Where the target isn't done with a request, its completion routine isn't due.
-use Rattle.std.proofs.Common.{ℕ, Bool, ◌<◌, ◌≤◌, length, sym, ◌∙◌, arith}
+-- Where the target doesn't say that a completion routine is due, it isn't.
+use Rattle.std.proofs.Common.{◌<◌, sym, ◌∙◌, arith}
 use Rattle.wdf_base.specs.declared.rank.Rank.TheVariants as rank
 use Rattle.wdf_model.specs.parts.Targets.{pending}
 use Rattle.wdf_sets.specs.Nexts.{IsNext}
@@ -49,5 +49,5 @@ search-preserved g c =
     record {
       after = omega arith;
       none = none_past (finished_at S.targets t) (is_due_at c.args.plan.now S rank.Completion t) (undue_at c.args.plan.now S t) c.args.from c.search.at c.search.invariant.none (pending S.targets t) c.args.end c.in-Some.place
-        found (sym c.is_due_at.ensures ∙ c.if-is_due_at.false);
+          found (sym c.is_due_at.ensures ∙ c.if-is_due_at.false);
     }

@@ -1,4 +1,4 @@
--- At no place so far the completion routine is due.
+-- At no place so far is the completion routine due.
 use Rattle.std.proofs.Common.{◌-◌, ◌≤◌}
 use Rattle.wdf_base.specs.declared.rank.Rank.TheVariants as rank
 use Rattle.wdf_sets.specs.Nexts.{NoneFrom}

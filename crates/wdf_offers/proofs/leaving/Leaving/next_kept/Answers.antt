@@ -1,5 +1,5 @@
--- What doesn't fit isn't kept back, nor is what isn't busy.
-use Rattle.std.proofs.Common.{◌<◌, length, sym, ◌∙◌, arith}
+-- What isn't busy isn't kept back, nor is what doesn't fit.
+use Rattle.std.proofs.Common.{◌+◌, ◌<◌, length, sym, ◌∙◌, arith}
 use Rattle.wdf_model.specs.declared.room.TheConstants.{OBJECTS}
 use Rattle.wdf_sets.specs.Nexts.{NoneFrom}
 use Rattle.wdf_offers.specs.Leaving.{fits_part, is_busy, is_kept}
@@ -11,47 +11,46 @@ pub returns-in-None : goal.returns-in-None
 returns-in-None g c =
     let l = c.args.self in
     let S = c.args.parts.now in
-    none_up_to (fits_part l S) (is_kept l S) (unfit l S) c.args.from c.search.at c.search.invariant.none c.args.end (λ x after below. c.in-None.ensures x after (omega (arith, c.requires.within)))
-
-pub returns-in-None-2 : goal.returns-in-None-2
-returns-in-None-2 g c =
-    let l = c.args.self in
-    let S = c.args.parts.now in
-    let none : NoneFrom (is_kept l S) c.args.from c.in-Some.o.0 = none_so_far (fits_part l S) (is_kept l S) (unfit l S) c.args.from c.search.at c.search.invariant.none (length S.tree.nodes) c.args.end c.in-Some.o.0 c.in-Some.ensures in
-    none_up_to (is_busy l S) (is_kept l S) (unbusy l S c.requires.settled) c.args.from c.in-Some.o.0 none c.args.end (λ x after below. c.in-None.ensures x after (omega (arith, c.requires.room)))
+    none_up_to (is_busy l S) (is_kept l S) (unbusy l S c.requires.settled) c.args.from c.search.at c.search.invariant.none c.args.end (λ x after below. c.in-None.ensures x after (omega (arith, c.requires.room)))
 
 pub returns-then-o-end : goal.returns-then-o-end
 returns-then-o-end g c =
     let l = c.args.self in
     let S = c.args.parts.now in
-    let none : NoneFrom (is_kept l S) c.args.from c.in-Some.o.0 = none_so_far (fits_part l S) (is_kept l S) (unfit l S) c.args.from c.search.at c.search.invariant.none (length S.tree.nodes) c.args.end c.in-Some.o.0 c.in-Some.ensures in
-    none_within (is_busy l S) (is_kept l S) (unbusy l S c.requires.settled) c.args.from c.in-Some.o.0 none OBJECTS c.args.end c.in-Some-2.o.0 c.in-Some-2.ensures (omega (arith, c.if-o-end.true))
+    none_within (is_busy l S) (is_kept l S) (unbusy l S c.requires.settled) c.args.from c.search.at c.search.invariant.none OBJECTS c.args.end c.in-Some.o.0 c.in-Some.ensures (omega (arith, c.if-o-end.true))
 
 pub returns-then-is_kept_back : goal.returns-then-is_kept_back
 returns-then-is_kept_back g c =
     let l = c.args.self in
     let S = c.args.parts.now in
-    let none : NoneFrom (is_kept l S) c.args.from c.in-Some.o.0 = none_so_far (fits_part l S) (is_kept l S) (unfit l S) c.args.from c.search.at c.search.invariant.none (length S.tree.nodes) c.args.end c.in-Some.o.0 c.in-Some.ensures in
-    let up = c.in-Some.ensures.after in
-    let below : c.in-Some-2.o.0 < c.args.end = omega (arith, c.if-o-end.false) in
-    next_is (is_busy l S) (is_kept l S) (unbusy l S c.requires.settled) c.args.from c.in-Some.o.0 none OBJECTS c.args.end c.in-Some-2.o.0 c.in-Some-2.ensures (omega (arith, c.search.invariant.after)) below (sym c.is_kept_back.ensures ∙ c.if-is_kept_back.true)
+    let below : c.in-Some.o.0 < c.args.end = omega (arith, c.if-o-end.false) in
+    next_is (is_busy l S) (is_kept l S) (unbusy l S c.requires.settled) c.args.from c.search.at c.search.invariant.none OBJECTS c.args.end c.in-Some.o.0 c.in-Some.ensures c.search.invariant.after below (sym c.is_kept_back.ensures ∙ c.if-is_kept_back.true)
+
+pub returns-in-None-2 : goal.returns-in-None-2
+returns-in-None-2 g c =
+    let l = c.args.self in
+    let S = c.args.parts.now in
+    let none : NoneFrom (is_kept l S) c.args.from (c.in-Some.o.0 + 1) =
+    none_past (is_busy l S) (is_kept l S) (unbusy l S c.requires.settled) c.args.from c.search.at c.search.invariant.none OBJECTS c.args.end c.in-Some.o.0 c.in-Some.ensures (sym c.is_kept_back.ensures ∙ c.if-is_kept_back.false) in
+    none_up_to (fits_part l S) (is_kept l S) (unfit l S) c.args.from (c.in-Some.o.0 + 1) none c.args.end (λ x after below. c.in-None.ensures x after (omega (arith, c.requires.within)))
 
 pub search-smaller : goal.search-smaller
 search-smaller g c =
-    let below : c.in-Some-2.o.0 < c.args.end = omega (arith, c.if-o-end.false) in
-    let up = c.in-Some.ensures.after in
-    let after = c.in-Some-2.ensures.after in
+    let below : c.in-Some.o.0 < c.args.end = omega (arith, c.if-o-end.false) in
+    let after = c.in-Some.ensures.after in
+    let further = c.in-Some-2.ensures.after in
     omega arith
 
 pub search-preserved : goal.search-preserved
 search-preserved g c =
     let l = c.args.self in
     let S = c.args.parts.now in
-    let none : NoneFrom (is_kept l S) c.args.from c.in-Some.o.0 = none_so_far (fits_part l S) (is_kept l S) (unfit l S) c.args.from c.search.at c.search.invariant.none (length S.tree.nodes) c.args.end c.in-Some.o.0 c.in-Some.ensures in
-    let up = c.in-Some.ensures.after in
-    let after = c.in-Some-2.ensures.after in
+    let none : NoneFrom (is_kept l S) c.args.from (c.in-Some.o.0 + 1) =
+    none_past (is_busy l S) (is_kept l S) (unbusy l S c.requires.settled) c.args.from c.search.at c.search.invariant.none OBJECTS c.args.end c.in-Some.o.0 c.in-Some.ensures (sym c.is_kept_back.ensures ∙ c.if-is_kept_back.false) in
     let from = c.search.invariant.after in
+    let after = c.in-Some.ensures.after in
+    let further = c.in-Some-2.ensures.after in
     record {
       after = omega arith;
-      none = none_past (is_busy l S) (is_kept l S) (unbusy l S c.requires.settled) c.args.from c.in-Some.o.0 none OBJECTS c.args.end c.in-Some-2.o.0 c.in-Some-2.ensures (sym c.is_kept_back.ensures ∙ c.if-is_kept_back.false);
+      none = none_so_far (fits_part l S) (is_kept l S) (unfit l S) c.args.from (c.in-Some.o.0 + 1) none (length S.tree.nodes) c.args.end c.in-Some-2.fitting.0 c.in-Some-2.ensures;
     }
