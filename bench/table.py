@@ -17,8 +17,8 @@ only they are run.
 The kinds are reads, removals of a device, interrupts, a loop, locks, cancels in a queue, queues, queues that declare callbacks
 for requests ("declaring"; "on eight" processors), devices, timers that are due at ticks of their own, work items, apps, what `gen 7` writes, children of one object and classes. Then those in which much waits at once: frames that are
 parked, timers that are due at one tick, removals where a class declares a callback for its cleanup or destruction, and many
-requests for which EvtRequestCancel, EvtIoCanceledOnQueue or EvtIoStop is due, or whose queue declares EvtIoResume. Other kinds
-of work may grow otherwise.
+requests for which EvtRequestCancel, EvtIoCanceledOnQueue, EvtIoStop or EvtRequestCompletion is due, or whose queue declares
+EvtIoResume. Other kinds of work may grow otherwise.
 """
 
 import math

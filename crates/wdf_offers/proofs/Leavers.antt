@@ -1,5 +1,5 @@
--- Cleanups, destructions and starts of work items and of timers by number: what keeps an object back is one of the busy ones, and what is
--- offered of the places is what may leave.
+-- Cleanups, destructions and starts of work items and of timers by number: what keeps an object back is one of the busy ones,
+-- and what is offered of the places is what may leave.
 use Rattle.std.proofs.Common.{if◌then◌else◌, ℕ, zero, suc, ◌≡◌, ◌⊎◌, ◌+◌, ◌-◌, ◌<◌, ◌≤◌, Bool, true, false, not, ◌==◌, ◌&&◌, ◌||◌, List, [], ◌∷◌, ◌++◌, find, filter, length, map, slice_get, Option, Some, None, MatchOption, is_some, option_map, append_assoc, length-append, refl, sym, ap, subst, ◌∙◌, inl, inr, arith}
 use Rattle.std.specs.Prelude.{nat_le}
 use Rattle.std.specs.List.{cons_option, filter_map, list_all, list_any, range_with_len}
@@ -44,7 +44,7 @@ use Rattle.wdf_model.specs.rules.Groups.{is_declared_somewhere, places_in, start
 use Rattle.wdf_model.specs.rules.Starts.{callback_over, clean_ready, destroy_ready, is_finished, is_unused, level_fits}
 use Rattle.wdf_model.specs.rules.Steps.{is_cpu, may}
 use Rattle.wdf_model.proofs.Maps.{entry_past}
-use Rattle.wdf_model.proofs.Tests.{both_left, both_right, not_true, right_fails}
+use Rattle.wdf_model.proofs.Tests.{both_left, both_right, left_fails, not_true, right_fails}
 use Rattle.wdf_cpu.specs.Occupied.{is_awaited, is_occupied}
 use Rattle.wdf_lock.specs.Holds.{is_locked}
 use Rattle.wdf_request.specs.Closing.{is_out}

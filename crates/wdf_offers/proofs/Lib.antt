@@ -15,6 +15,6 @@ pub mod Leavers
 mod ComingBack
 pub mod Herds
 pub mod HerdWalk
-mod Routines
+mod DueRoutines
 mod AtRest
 mod NoneAhead

@@ -139,7 +139,7 @@ module _ (p : ℕ → Bool) (n from : ℕ) where
       high = slice_get_within (filter p (range_with_len 0 n)) (below p from) x (sym h)
 
       by : (from < n) ⊎ (n ≤ from) → IsNext p from n x
-      by (inr past) = let up = below_rises p n from past in absurd (omega arith)
+      by (inr past) = let up = below_rises p n from past in absurd (omega (arith, up, high))
       by (inl low) =
           let z : from + (n - from) ≡ n = omega arith in
           let found = found_by p from (n - from) (below p from) (omega arith) (subst (λ y. below p from < below p y) (sym z) high) in

@@ -70,8 +70,8 @@ events_for plan m S cpu r ids = events_of plan m S (groups_for cpu r ids)
 abbrev pub NothingAfter : {A : Type 0} → Plan → Meaning A → State A → Rank → List ℕ → ℕ → Type 0
 NothingAfter plan m S r ids from = (cpu : ℕ) → events_for plan m S cpu r (drop from ids) ≡ []
 
--- A place of an object, such that nothing may come for those from another place on before it, on whatever processor. It is any such
--- place, not the first one: whether something may come for its own object isn't said.
+-- A place of an object, such that nothing may come for those from another place on before it, on whatever processor. It is any
+-- such place, not the first one: whether something may come for its own object isn't said.
 pub record NothingBetween {A : Type 0} (plan : Plan) (m : Meaning A) (S : State A) (r : Rank) (ids : List ℕ) (from place : ℕ) : Type 0 where
   pub after : from ≤ place
   pub within : place < length ids

@@ -8,7 +8,7 @@ use Rattle.wdf_model.specs.rules.Groups.{starts_for}
 use Rattle.wdf_target.specs.Finished.{finished_in}
 use Rattle.wdf_offers.specs.Search.{offered_from}
 use Rattle.wdf_offers.proofs.Leavers.{leaver_there}
-use Rattle.wdf_offers.proofs.Routines.{begun, routine_is, routines_are}
+use Rattle.wdf_offers.proofs.DueRoutines.{begun, routine_is, routines_are}
 use Rattle.wdf_offers.proofs.routines.routine_at.Goals as goal
 
 pub returns-then-k-len : goal.returns-then-k-len

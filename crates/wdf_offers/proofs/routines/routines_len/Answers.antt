@@ -2,7 +2,7 @@
 use Rattle.std.proofs.Common.{if◌then◌else◌, length, sym, ap, ◌∙◌}
 use Rattle.wdf_target.specs.Finished.{finished_in}
 use Rattle.wdf_offers.proofs.Herds.{else_none}
-use Rattle.wdf_offers.proofs.Routines.{routines_are}
+use Rattle.wdf_offers.proofs.DueRoutines.{routines_are}
 use Rattle.wdf_offers.proofs.routines.routines_len.Goals as goal
 use Rattle.wdf_offers.proofs.routines.routines_len.Goals.{else-len-gt0-via-then-len-gt0+else-begins_on, else-len-gt0-via-else-len-gt0}
 

@@ -26,19 +26,19 @@ returns-then-is_kept_back g c =
     let below : c.in-Some.o.0 < c.args.end = omega (arith, c.if-o-end.false) in
     next_is (is_busy l S) (is_kept l S) (unbusy l S c.requires.settled) c.args.from c.search.at c.search.invariant.none OBJECTS c.args.end c.in-Some.o.0 c.in-Some.ensures c.search.invariant.after below (sym c.is_kept_back.ensures ∙ c.if-is_kept_back.true)
 
-pub returns-in-None-2 : goal.returns-in-None-2
-returns-in-None-2 g c =
+pub returns-in-None-next_fitting : goal.returns-in-None-next_fitting
+returns-in-None-next_fitting g c =
     let l = c.args.self in
     let S = c.args.parts.now in
     let none : NoneFrom (is_kept l S) c.args.from (c.in-Some.o.0 + 1) =
     none_past (is_busy l S) (is_kept l S) (unbusy l S c.requires.settled) c.args.from c.search.at c.search.invariant.none OBJECTS c.args.end c.in-Some.o.0 c.in-Some.ensures (sym c.is_kept_back.ensures ∙ c.if-is_kept_back.false) in
-    none_up_to (fits_part l S) (is_kept l S) (unfit l S) c.args.from (c.in-Some.o.0 + 1) none c.args.end (λ x after below. c.in-None.ensures x after (omega (arith, c.requires.within)))
+    none_up_to (fits_part l S) (is_kept l S) (unfit l S) c.args.from (c.in-Some.o.0 + 1) none c.args.end (λ x after below. c.in-None-next_fitting.ensures x after (omega (arith, c.requires.within)))
 
 pub search-smaller : goal.search-smaller
 search-smaller g c =
     let below : c.in-Some.o.0 < c.args.end = omega (arith, c.if-o-end.false) in
     let after = c.in-Some.ensures.after in
-    let further = c.in-Some-2.ensures.after in
+    let further = c.in-Some-next_fitting.ensures.after in
     omega arith
 
 pub search-preserved : goal.search-preserved
@@ -49,8 +49,8 @@ search-preserved g c =
     none_past (is_busy l S) (is_kept l S) (unbusy l S c.requires.settled) c.args.from c.search.at c.search.invariant.none OBJECTS c.args.end c.in-Some.o.0 c.in-Some.ensures (sym c.is_kept_back.ensures ∙ c.if-is_kept_back.false) in
     let from = c.search.invariant.after in
     let after = c.in-Some.ensures.after in
-    let further = c.in-Some-2.ensures.after in
+    let further = c.in-Some-next_fitting.ensures.after in
     record {
       after = omega arith;
-      none = none_so_far (fits_part l S) (is_kept l S) (unfit l S) c.args.from (c.in-Some.o.0 + 1) none (length S.tree.nodes) c.args.end c.in-Some-2.fitting.0 c.in-Some-2.ensures;
+      none = none_so_far (fits_part l S) (is_kept l S) (unfit l S) c.args.from (c.in-Some.o.0 + 1) none (length S.tree.nodes) c.args.end c.in-Some-next_fitting.fitting.0 c.in-Some-next_fitting.ensures;
     }
