@@ -40,6 +40,8 @@ enum Act {
     Undone(ObjectId, bool),
     /// The status with which the routine of a request is due.
     Routine(ObjectId, Option<Status>),
+    /// Of the first target's requests the routine is due for these, and for none of another target.
+    Finished(&'static [ObjectId]),
 }
 
 /// A target takes requests while it isn't stopped and holds fewer than its depth. What is no target
@@ -68,24 +70,44 @@ static TAKEN: [Act; 19] = [
 
 /// A target holds a request with which it is done until the completion routine starts. One that is
 /// forgotten has no routine, and leaves at once.
-static DONE: [Act; 17] = [
+static DONE: [Act; 21] = [
     Act::Send(FIRST, ONE, false, true),
     Act::Send(FIRST, OTHER, true, true),
     Act::Forgotten(ONE, false),
     Act::Forgotten(OTHER, true),
     Act::Undone(ONE, true),
     Act::Routine(ONE, None),
+    Act::Finished(&[]),
     Act::Done(ONE, Status::Cancelled),
     Act::Undone(ONE, false),
     Act::Routine(ONE, Some(Status::Cancelled)),
+    Act::Finished(&[ONE]),
     Act::Holds(&[OTHER, ONE]),
     Act::Done(OTHER, Status::Success),
     Act::Routine(OTHER, None),
     Act::Sent(OTHER, false),
+    Act::Finished(&[ONE]),
     Act::Holds(&[ONE]),
     Act::Back(ONE),
     Act::Sent(ONE, false),
+    Act::Finished(&[]),
     Act::Holds(&[]),
+];
+
+/// The requests whose completion routine is due rise by id, also where the target is done with them in another order. A stop
+/// changes nothing of that.
+static FINISHED: [Act; 11] = [
+    Act::Send(FIRST, OTHER, false, true),
+    Act::Send(FIRST, ONE, false, true),
+    Act::Done(ONE, Status::Success),
+    Act::Finished(&[ONE]),
+    Act::Done(OTHER, Status::Cancelled),
+    Act::Finished(&[OTHER, ONE]),
+    Act::Stop(FIRST),
+    Act::Finished(&[OTHER, ONE]),
+    Act::Back(OTHER),
+    Act::Finished(&[ONE]),
+    Act::Holds(&[ONE]),
 ];
 
 /// Sends a request that no target holds; whether the target takes it.
@@ -107,6 +129,20 @@ fn holds(targets: &Targets, due: &[ObjectId]) -> bool {
     at == targets.pending(FIRST)
 }
 
+/// Whether of the requests of the first target the completion routine is due for these, and for none of another target.
+fn are_finished(targets: &Targets, due: &[ObjectId]) -> bool {
+    let mut at = 0;
+    for r in due {
+        if at >= targets.finished_len(FIRST) || targets.nth_finished(FIRST, at) != Some(*r) {
+            return false;
+        }
+        at += 1;
+    }
+    at == targets.finished_len(FIRST)
+        && targets.none_finished() == due.is_empty()
+        && targets.next_with_finished(FIRST.0 + 1, 5).is_none()
+}
+
 /// Whether what is read of the targets is as due.
 fn is_so(targets: &Targets, act: Act) -> bool {
     match act {
@@ -117,6 +153,7 @@ fn is_so(targets: &Targets, act: Act) -> bool {
         Act::Forgotten(r, due) => targets.is_forgotten(r) == due,
         Act::Undone(r, due) => targets.is_undone(r) == due,
         Act::Routine(r, due) => targets.routine_due(r) == due,
+        Act::Finished(due) => are_finished(targets, due),
         _ => false,
     }
 }
@@ -162,7 +199,11 @@ pub fn wrong(alloc: Global, plan: &Plan) -> Result<Wrong, Memory> {
     if plan.declared_len() != 4 {
         return Ok(Some(("a plan with targets", 0)));
     }
-    for (name, acts) in [("taken", TAKEN.as_slice()), ("done", DONE.as_slice())] {
+    for (name, acts) in [
+        ("taken", TAKEN.as_slice()),
+        ("done", DONE.as_slice()),
+        ("finished", FINISHED.as_slice()),
+    ] {
         let wrong = match Targets::make(alloc, plan) {
             Ok(targets) => wrong_in(targets, acts),
             Err(memory) => return Err(memory),
