@@ -71,9 +71,9 @@ def check_trace(place, text, scenario):
 def check_console(folder, text):
     """What is wrong with the lines of a shell and what they write, if anything is."""
     for line, due in re.findall(r"^\$ ([^\n]*)\n((?:(?!\$ )[^\n]*\n)*)", text, re.MULTILINE):
-        done = subprocess.run(["bash", "-c", line], cwd=folder, stdin=subprocess.DEVNULL, capture_output=True, text=True, check=False)
-        if done.stdout + done.stderr != due:
-            return f"`{line}` writes\n{done.stdout}{done.stderr}"
+        done = subprocess.run(["bash", "-c", line], cwd=folder, stdin=subprocess.DEVNULL, stdout=subprocess.PIPE, stderr=subprocess.STDOUT, text=True, check=False)
+        if done.stdout != due:
+            return f"`{line}` writes\n{done.stdout}"
     return None if text.startswith("$ ") else "no line of a shell"
 
 

@@ -8,12 +8,13 @@ Of each worked run the program must write the trace that is beside it, which was
 with two registers IDLE_TIMEOUT there is none: `check` must refuse it.
 """
 
+import os
 import re
 
 from rows import call, check, files_in, read, replay, row
 from test_documents import ending_of
 
-SEEDS = 3
+SEEDS = int(os.environ.get("KMDFSIM_SEEDS", "3"))
 FOLDERS = ("examples", "scenarios/drivers", "scenarios/hunt", "scenarios/not-found", "scenarios/pictures")
 WORKED = (("order", "tools/runs"), ("order", "scenarios/stuck"), ("order", "scenarios/spinning"), ("idle", "tools/idle"), ("stack", "tools/stack"))
 STATUS = re.compile(r"the status (\d+)")

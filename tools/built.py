@@ -26,10 +26,10 @@ def launched(name):
     folder = os.environ.get("KMDFSIM_PROGRAMS")
     if folder:
         return program_at(os.path.join(folder, name))
-    launcher = os.path.join(ROOT, name)
-    subprocess.run([launcher, "--build"], stdin=subprocess.DEVNULL, check=True)
-    version = subprocess.run([launcher, "--version"], stdin=subprocess.DEVNULL, stdout=subprocess.PIPE, text=True, check=True).stdout
-    return program_at(os.path.join(ROOT, "crates", name, "out", name + "-unproved" * ("NOT PROVED" in version)))
+    built = subprocess.run([os.path.join(ROOT, name), "--build"], stdin=subprocess.DEVNULL, stdout=subprocess.PIPE, text=True, check=False)
+    if built.returncode != 0:
+        sys.exit(f"./{name} isn't built")
+    return program_at(built.stdout.strip())
 
 
 def needs(command, what):

@@ -8,8 +8,7 @@ from unittest import mock
 import built
 
 LAUNCHER = """#!/bin/sh
-[ "$1" = --build ] && exit
-echo "kmdfsim 1 (NOT PROVED: it is quick)"
+[ "$*" = --build ] && echo "${0%/*}/quick"
 """
 
 
@@ -59,12 +58,11 @@ class Programs(unittest.TestCase):
 
     def test_the_program_that_the_launcher_runs(self):
         self.put("kmdfsim", LAUNCHER)
-        quick, proved = self.put("crates/kmdfsim/out/kmdfsim-unproved"), self.put("crates/kmdfsim/out/kmdfsim")
+        quick = self.put("quick")
+        self.put("kmdfhunt", "#!/bin/sh\nexit 1\n")
         with mock.patch.object(built, "ROOT", self.room), mock.patch.dict(os.environ, {"KMDFSIM_PROGRAMS": ""}):
             self.assertEqual(built.launched("kmdfsim"), quick)
-            built.launched.cache_clear()
-            self.put("kmdfsim", LAUNCHER.replace("NOT PROVED: it is quick", "proved"))
-            self.assertEqual(built.launched("kmdfsim"), proved)
+            self.assert_ends("./kmdfhunt isn't built", built.launched, "kmdfhunt")
 
 
 if __name__ == "__main__":
