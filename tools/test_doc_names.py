@@ -10,6 +10,7 @@ FILES = {
     "crates/wdf_text/src/lib.rt": "//! Text.\npub fn small() -> u32\n    ensures little { ⊤ }\n{\n    1\n}\n",
     "crates/wdf_text/specs/Texts.antt": "-- texts\nabbrev pub text_of : ℕ\ntext_of = 0\n",
     "tools/check_all.py": "",
+    "tools/test_check_all.py": "",
     "tools/README.md": "`check_all.py` and `check_none.py`\n",
     "docs/OTHER.md": "# Other things\n\n## What `it` is\n",
 }
