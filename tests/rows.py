@@ -1,6 +1,7 @@
 """What the tests of this folder share: a test with a name of its own, and the programs that are tried."""
 
 import os
+import re
 import subprocess
 import sys
 import unittest
@@ -10,7 +11,8 @@ ROOT = os.path.dirname(os.path.dirname(os.path.abspath(__file__)))
 sys.path.insert(0, os.path.join(ROOT, "tools"))
 from built import NAMES, launched
 
-# The statuses with which the program says how a run ended.
+# The line of how a run ended, and the status that goes with its word.
+ENDING = re.compile(r"^(finished|fault|stuck|limit) \d+$", re.MULTILINE)
 STATUSES = {"finished": 0, "fault": 3, "stuck": 4, "limit": 5}
 
 
@@ -63,6 +65,11 @@ def call(words, text):
     """The same of a text, with all that is written as one text."""
     status, out, error = answer(words, text if isinstance(text, bytes) else text.encode())
     return status, (out + error).decode(errors="replace")
+
+
+def status_of(trace):
+    """The status of a run that is written so."""
+    return STATUSES[ENDING.search(trace).group(1)]
 
 
 def check(text):
