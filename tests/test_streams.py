@@ -6,6 +6,7 @@ import resource
 import signal
 import subprocess
 import tempfile
+import tty
 import unittest
 
 from rows import answer, launched, read
@@ -39,6 +40,25 @@ class Sources(unittest.TestCase):
                 done = subprocess.run([launched("kmdfsim"), *words.split()], stdin=folder, capture_output=True, check=False)
                 self.assertEqual((done.returncode, done.stdout, done.stderr), (12, b"read fault\n", b""))
 
+    def test_one_that_fails_after_the_text(self):
+        scenario = read(ONE_READ + ".scn")
+        for words, text in (("check", scenario), ("order", scenario), ("seed 9", scenario), ("replay", scenario + "trace\n"), ("run", scenario), ("watch", scenario)):
+            # Who reads from a terminal whose other end is closed gets what was written, and then an error.
+            ours, theirs = os.openpty()
+            tty.setraw(theirs)
+            os.write(theirs, text.encode())
+            os.close(theirs)
+            with self.subTest(words=words), open(ours, "rb") as given:
+                done = subprocess.run([launched("kmdfsim"), *words.split()], stdin=given, capture_output=True, check=False)
+                self.assertEqual((done.returncode, done.stdout, done.stderr), (12, b"read fault\n", b""))
+
+    def test_one_that_comes_byte_by_byte(self):
+        with subprocess.Popen([launched("kmdfsim"), "order"], stdin=subprocess.PIPE, stdout=subprocess.PIPE, bufsize=0) as run:
+            for byte in read(ONE_READ + ".scn"):
+                run.stdin.write(byte.encode())
+            run.stdin.close()
+            self.assertEqual((run.stdout.read(), run.wait()), (read(ONE_READ + ".out").encode(), 0))
+
     def test_one_that_is_too_large(self):
         for words in ("order", "run"):
             with self.subTest(words=words):
@@ -48,8 +68,10 @@ class Sources(unittest.TestCase):
 
 class Sinks(unittest.TestCase):
     def test_one_that_takes_nothing(self):
-        for words, text in (("check", ""), ("order", ""), ("", ""), ("load 7", ""), ("gen 7", ""), ("run", read(ONE_READ + ".scn")), ("watch", read(ONE_READ + ".scn"))):
-            with self.subTest(words=words), open("/dev/full", "wb") as full:
+        scenario = read(ONE_READ + ".scn")
+        rows = [(words, scenario) for words in ("check", "order", "seed 9", "replay", "run", "watch", "idle", "stack", "lint")]
+        for words, text in (*rows, ("check", ""), ("order", ""), ("run", ""), ("", ""), ("load 7", ""), ("gen 7", "")):
+            with self.subTest(words=words, text=text), open("/dev/full", "wb") as full:
                 done = subprocess.run([launched("kmdfsim"), *words.split()], input=text.encode(), stdout=full, stderr=subprocess.PIPE, check=False)
                 self.assertEqual((done.returncode, done.stderr), (13, b""))
 
