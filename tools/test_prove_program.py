@@ -65,7 +65,7 @@ class Tree:
             file.write(text)
 
     def begin(self, command):
-        given = {**os.environ, "PATH": f"{self.top}/bin:{os.environ['PATH']}", "CALLS": self.calls, "TMPDIR": self.top, "XDG_CACHE_HOME": os.path.join(self.top, "cache")}
+        given = {**os.environ, "PATH": f"{self.top}/bin:{os.environ['PATH']}", "CALLS": self.calls, "TMPDIR": self.top, "XDG_CACHE_HOME": os.path.join(self.top, "cache"), "KMDFSIM_PROVED": "1"}
         # A group of its own, to be sent a signal as one from a terminal; where the gate runs in the background, signals that
         # it was told to ignore count again.
         how = {"stdin": subprocess.DEVNULL, "stdout": subprocess.PIPE, "stderr": subprocess.PIPE, "text": True}
