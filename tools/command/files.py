@@ -60,11 +60,11 @@ def tell_unread(program: str, error: OSError, path: str) -> int:
     return READ_FAULT
 
 
-def each(call: Call, one: Callable[[str], int]) -> int:
+def each(call: Call, one: Callable[[str], int], has_heads: bool = True) -> int:
     """Does something for each file of a call, under its name where there are several; the first status that isn't 0."""
     first, found = "", 0
     for number, path in enumerate(call.files):
-        if len(call.files) > 1:
+        if len(call.files) > 1 and has_heads:
             head = colours.painted(f"==> {path} <==", call.options)
             print(f"{chr(10) if number else ''}{head}", flush=True)
         try:

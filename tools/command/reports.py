@@ -11,7 +11,7 @@ from xml.etree import ElementTree
 
 from . import running
 from .call import Call
-from .tables import Row, Table
+from .tables import FAULT, STUCK, Row, Table
 from .words import JSON, JUNIT, SARIF
 
 OPTIONS = (JSON, JUNIT, SARIF)
@@ -32,7 +32,9 @@ def way_back(case: Case, row: Row, ticks: Optional[str]) -> str:
     """The line for a shell that brings a kind of ending back."""
     if ticks is not None:
         return f"./kmdfhunt shrink {row.seed} jitter {ticks} {case.path}"
-    return f"./kmdfhunt explain {row.seed} {case.path}"
+    if row.status in (FAULT, STUCK):
+        return f"./kmdfhunt explain {row.seed} {case.path}"
+    return f"./kmdfsim seed {row.seed} {case.path}"
 
 
 def row_values(case: Case, row: Row, ticks: Optional[str]) -> Dict[str, Any]:
@@ -62,8 +64,8 @@ def junit_text(cases: Sequence[Case], ticks: Optional[str]) -> str:
     refused = sum(case.table is None for case in cases)
     failed = sum(case.table is not None and case.status != 0 for case in cases)
     counts = {"tests": str(len(cases)), "failures": str(failed), "errors": str(refused)}
-    top = ElementTree.Element("testsuites", name="kmdfhunt", **counts)
-    suite = ElementTree.SubElement(top, "testsuite", name="kmdfhunt", skipped="0", **counts)
+    top = ElementTree.Element("testsuites", {"name": "kmdfhunt", **counts})
+    suite = ElementTree.SubElement(top, "testsuite", {"name": "kmdfhunt", "skipped": "0", **counts})
     for case in cases:
         one = ElementTree.SubElement(suite, "testcase", classname="kmdfhunt", name=case.path)
         worst = case.table.worst if case.table else None
@@ -120,6 +122,11 @@ def sarif_text(cases: Sequence[Case], ticks: Optional[str]) -> str:
 
 
 WRITERS = {JSON.name: json_text, JUNIT.name: junit_text, SARIF.name: sarif_text}
+
+
+def are_on_output(call: Call) -> bool:
+    """Whether a report is on standard output, in place of what is written there else."""
+    return any(call.options.get(option.name) == "-" for option in OPTIONS)
 
 
 def write(call: Call, cases: Sequence[Case]) -> None:

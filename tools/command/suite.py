@@ -4,9 +4,9 @@ from __future__ import annotations
 import os
 from typing import List
 
-from . import colours, files, hunt, refusals, reports, running, tables
+from . import colours, files, hunt, reports, running, tables
 from .call import Call
-from .words import JOBS
+from .words import JOBS, REFUSED
 
 
 def scenarios_in(folder: str) -> List[str]:
@@ -30,7 +30,7 @@ def tried(call: Call, program: str, path: str) -> reports.Case:
         text = file.read()
     status, table = running.answer([program, "seeds", *call.numbers], text, hunt.number_option(call, JOBS.name))
     written = table.decode("ascii", errors="replace")
-    return reports.Case(path, written, status, None if status in refusals.REFUSED else tables.read(written))
+    return reports.Case(path, written, status, None if status in REFUSED else tables.read(written))
 
 
 def do(call: Call, program: str) -> int:
@@ -41,12 +41,11 @@ def do(call: Call, program: str) -> int:
             os.sched_setaffinity(0, running.processors(most) or [])
         return files.do(call, program)
     paths, cases = scenarios_in(call.files[0]), []
-    is_shown = "-" not in call.options.values()
     lines = [f"1..{len(paths)}"]
     for number, path in enumerate(paths, 1):
         cases.append(tried(call, program, path))
         lines.append(line_of(number, cases[-1]))
-    if is_shown:
+    if not reports.are_on_output(call):
         print(colours.painted("\n".join(lines) + "\n", call.options), end="")
     reports.write(call, cases)
     return 0 if cases and not any(case.status for case in cases) else 1
