@@ -14,7 +14,7 @@ svg text { font: 11px system-ui, sans-serif; fill: var(--ink); }
 #run { display: flex; overflow: auto; max-height: 78vh; border: 1px solid var(--rule); background: var(--ground); }
 #both { display: flex; gap: 8px; align-items: flex-start; }
 #both #run { flex: 1 1 0; min-width: 0; }
-#side { display: flex; flex-direction: column; flex: 0 0 36%; max-height: 78vh; border: 1px solid var(--rule); background: var(--panel); }
+#side { display: flex; flex-direction: column; flex: 0 0 36%; min-width: 0; max-height: 78vh; border: 1px solid var(--rule); background: var(--panel); }
 #side h2 { flex: none; margin: 0; padding: 3px 8px; border-bottom: 1px solid var(--rule); }
 #story { flex: none; max-height: 38vh; overflow: auto; padding: 3px 0; border-bottom: 1px solid var(--rule); }
 #story div { padding: 1px 8px; font: 13px/1.45 system-ui, sans-serif; white-space: pre-wrap; overflow-wrap: anywhere; }
