@@ -64,7 +64,7 @@ def of_word(program: Program, word: Word) -> str:
     """The page of a word."""
     forms = "\n".join(f"{'Usage: ' if number == 0 else '       '}{program.name} {form}" for number, form in enumerate(word.forms))
     parts = [
-        f"{program.name} {word.name}: {word.meaning}",
+        paragraph(f"{program.name} {word.name}: {word.meaning}"),
         forms,
         *(paragraph(text) for text in word.more),
         "Options stand anywhere\n" + options(options_of(word)),

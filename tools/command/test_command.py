@@ -3,6 +3,7 @@ from __future__ import annotations
 
 import json
 import os
+import re
 import shutil
 import signal
 import subprocess
@@ -382,11 +383,12 @@ class Pages(unittest.TestCase):
         if not shutil.which("groff"):
             self.skipTest("no `groff` on the PATH")
         for program in PROGRAMS.values():
-            made = subprocess.run(["groff", "-man", "-ww", "-Tascii"], input=man.of_program(program), capture_output=True, text=True, check=True)
+            made = subprocess.run(["groff", "-man", "-ww", "-P-c", "-Tascii"], input=man.of_program(program), capture_output=True, text=True, check=True)
             self.assertEqual(made.stderr, "")
-            self.assertIn(f"{program.name} - {program.meaning}"[:60], made.stdout)
+            page = re.sub(".\b", "", made.stdout)  # (a bold letter is struck twice)
+            self.assertIn(f"{program.name} - {program.meaning}"[:60], page)
             for word in program.words:
-                self.assertIn(f"{program.name} {word.forms[0]}".partition(" [")[0], made.stdout.replace("\x1b[1m", "").replace("\x1b[0m", "").replace("\x1b[22m", ""))
+                self.assertIn(f"{program.name} {word.forms[0]}".partition(" [")[0], page)
 
     def complete(self, shell: List[str], words: List[str]) -> str:
         """What bash offers for the last of these words."""

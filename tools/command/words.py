@@ -166,7 +166,7 @@ SIMULATOR = Program(
             "run",
             "runs it in threads, which pick the order; each time it may be another one",
             ("run [FILE..]",),
-            (Example("./kmdfsim run examples/echo.kmdf > run.trace", "keeps the trace: nothing else brings this run back"),),
+            (Example("./kmdfsim run examples/echo.kmdf > run.trace", "keeps the trace, since nothing else brings this run back"),),
         ),
         Word(
             "watch",
