@@ -1,48 +1,61 @@
 #!/usr/bin/env python3
-"""A test of tools/built.py: a program that is there has its path, one that isn't there or can't be run ends the script and says how
-to build it, and so does a command that isn't on the PATH."""
+"""A test of tools/built.py."""
 
 import os
 import sys
 import tempfile
+import unittest
+from unittest import mock
 
 sys.dont_write_bytecode = True
+sys.path.insert(0, os.path.dirname(os.path.abspath(__file__)))
 import built
 
 
-def said_by(call, *words):
-    """What a call answers, or what it says when it ends the script."""
-    try:
-        return call(*words)
-    except SystemExit as end:
-        return f"ends: {end}"
+class Programs(unittest.TestCase):
+    def setUp(self):
+        room = tempfile.TemporaryDirectory()
+        self.addCleanup(room.cleanup)
+        self.path = os.path.join(room.name, "program")
 
+    def put(self, text: str, mode: int = 0o755):
+        with open(self.path, "w", encoding="ascii") as file:
+            file.write(text)
+        os.chmod(self.path, mode)
 
-def main():
-    wrong = []
-    with tempfile.TemporaryDirectory() as room:
-        path = os.path.join(room, "program")
-        advice = f"ends: no program at {path}. Build it first: `./program` at the top does"
-        if not said_by(built.program_at, path).startswith(advice):
-            wrong.append("a program that isn't there")
-        with open(path, "w", encoding="ascii") as file:
-            file.write("#!/bin/sh\n")
-        os.chmod(path, 0o644)
+    def check_advice(self):
+        with self.assertRaises(SystemExit) as end:
+            built.program_at(self.path)
+        self.assertIn(f"no program at {self.path}. Build it first: `./program` at the top does", str(end.exception))
+
+    def test_one_that_is_not_there_or_cannot_be_run_ends_the_script(self):
+        self.check_advice()
         # Who may run everything, as root on some systems, may not run a file without the mark either.
-        if not said_by(built.program_at, path).startswith(advice):
-            wrong.append("a program that can't be run")
-        os.chmod(path, 0o755)
-        if said_by(built.program_at, path) != path or said_by(built.program_at, os.path.relpath(path)) != path:
-            wrong.append("a program that is there")
-    if said_by(built.needs, "sh", "a shell") is not None:
-        wrong.append("a command that is there")
-    if said_by(built.needs, "no-such-command", "it is needed here") != "ends: `no-such-command` isn't on the PATH: it is needed here":
-        wrong.append("a command that isn't there")
-    for name, place in (("kmdfsim", built.PROGRAM), ("kmdfhunt", built.HUNTER)):
-        if os.path.relpath(place, built.ROOT) != os.path.join("crates", name, "out", name):
-            wrong.append(f"where {name} is")
-    sys.exit(f"tools/built.py isn't right for: {', '.join(wrong)}" if wrong else 0)
+        self.put("#!/bin/sh\n", 0o644)
+        self.check_advice()
+
+    def test_one_that_is_there_has_its_path(self):
+        self.put("#!/bin/sh\n")
+        for path in (self.path, os.path.relpath(self.path)):
+            self.assertEqual(built.program_at(path), self.path)
+
+    def test_of_a_launcher_it_is_the_program_that_it_names(self):
+        self.put('#!/bin/sh\n[ "$*" = --build ] && echo /bin/sh\n')
+        with mock.patch.object(built, "PROGRAM", self.path):
+            self.assertEqual(built.program_at(self.path), "/bin/sh")
+
+    def test_a_launcher_that_builds_nothing_ends_the_script(self):
+        self.put("#!/bin/sh\nexit 1\n")
+        with mock.patch.object(built, "PROGRAM", self.path), self.assertRaises(SystemExit):
+            built.program_at(self.path)
+
+
+class Commands(unittest.TestCase):
+    def test_one_that_is_not_there_ends_the_script(self):
+        self.assertIsNone(built.needs("sh", "a shell"))
+        with self.assertRaisesRegex(SystemExit, "^`no-such-command` isn't on the PATH: it is needed here$"):
+            built.needs("no-such-command", "it is needed here")
 
 
 if __name__ == "__main__":
-    main()
+    unittest.main()
