@@ -9,7 +9,7 @@ from typing import List, Optional
 
 from . import colours, files, refusals, reports, running, tables
 from .call import Call, WrongCall, is_number
-from .words import REFUSED
+from .words import QUIET, REFUSED
 
 LAST_SEED, MOST = 2**64 - 1, 2**32 - 1
 # The first piece, how many times as large the next one may be, the largest one, and how long a piece should take, in seconds.
@@ -65,7 +65,7 @@ class Hunt:
     def piece(self, size: int) -> bool:
         """Runs the next seeds, so many; whether that gave a table."""
         jitter = [] if self.limits.ticks is None else ["jitter", self.limits.ticks]
-        words = [self.program, "seeds", str(self.limits.first + self.seeds), str(size), *jitter]
+        words = [self.program, "seeds", str(self.limits.first + self.seeds), str(size), *jitter, QUIET.name]
         seconds = self.limits.seconds if self.seeds else None  # (the first piece is always done)
         left = None if seconds is None else max(seconds - self.spent(), 0.001)
         status, text = running.answer(words, self.text, self.limits.processors, apart=True, seconds=left)

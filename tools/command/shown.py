@@ -36,10 +36,11 @@ def read(path: str) -> bytes:
 def split(text: bytes) -> Optional[Tuple[bytes, bytes]]:
     """The scenario and the trace of a text that has both: the first line whose only word is `trace` is between them."""
     at = 0
-    for line in text.splitlines(keepends=True):
+    for line in text.split(b"\n"):
+        after = at + len(line) + 1
         if line.partition(b"#")[0].split() == [b"trace"]:
-            return text[:at], text[at + len(line) :]
-        at += len(line)
+            return text[:at], text[after:]
+        at = after
     return None
 
 
