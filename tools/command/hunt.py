@@ -177,15 +177,16 @@ def tell_stop(call: Call, found: Found, limits: Limits) -> None:
 
 def seeds(call: Call, program: str) -> int:
     """Runs the seeds of a call over each file, or over standard input."""
-    limits, found = limits_of(call), []
+    limits = limits_of(call)
+    found: List[reports.Case] = []
+    reports.check(call)
     is_quiet = "--no-progress" in call.options
     is_table_shown = not reports.are_on_output(call)
 
     def one(path: Optional[str]) -> int:
-        with open(0 if path is None else path, "rb", closefd=path is not None) as file:
-            text = file.read()
+        text = files.read(path)
         result = Hunt(program, text, limits, is_quiet).run()
-        found.append(reports.Case(path or "standard input", result.text, result.status, result.table))
+        found.append(reports.Case(path, result.text, result.status, result.table))
         if is_table_shown:
             print(colours.painted(result.text, call.options), end="", flush=True)
         tell_stop(call, result, limits)
