@@ -1,10 +1,8 @@
 """What a person's words ask for: the reading of a call by the table of words, and what is said of words that are wrong."""
 from __future__ import annotations
 
-import difflib
 import os
-from dataclasses import dataclass, field
-from typing import Dict, List, Optional, Tuple
+from typing import Dict, List, NamedTuple, Optional, Tuple
 
 from .words import COMMON, HELP, PROGRAMS, Option, Program, Reads, Takes, Word
 
@@ -17,18 +15,17 @@ class WrongCall(Exception):
     """The words are no call; the message says why, and what may be meant."""
 
 
-@dataclass
-class Call:
+class Call(NamedTuple):
     """A call: a word, with what belongs to it."""
 
     program: Program
     word: Word
+    options: Dict[str, str]
     numbers: Tuple[str, ...] = ()
     ticks: Optional[str] = None
     way: Tuple[str, ...] = ()  # how to run the scenario for a picture or a story: `order`, or `seed` and a number, or `run`
     files: Tuple[str, ...] = ()
     choice: str = ""
-    options: Dict[str, str] = field(default_factory=dict)
 
     def proved(self) -> List[str]:
         """The words for the program itself, without files and options."""
@@ -53,6 +50,8 @@ def options_of(word: Optional[Word]) -> Tuple[Option, ...]:
 
 def like(name: str, names: List[str]) -> str:
     """A question after the name that is meant by a misspelled one; empty where none is near."""
+    import difflib
+
     near = difflib.get_close_matches(name, names, n=1, cutoff=0.6)
     return f"; did you mean `{near[0]}`?" if near else ""
 
@@ -63,6 +62,15 @@ def named(text: str, known: Tuple[Option, ...]) -> Option:
         if text in (option.name, option.short):
             return option
     raise WrongCall(f"no option `{text}`{like(text, [option.name for option in known])}")
+
+
+def take_value(option: Option, left: List[str]) -> str:
+    """The value of an option at the front of what is left, which is taken away; empty where it may be and is left out."""
+    if option.choices and (not left or left[0] not in option.choices):
+        return ""
+    if not left:
+        raise WrongCall(f"`{option.name}` takes a value, {option.value}")
+    return left.pop(0)
 
 
 def split_options(words: List[str], known: Tuple[Option, ...]) -> Tuple[List[str], Dict[str, str]]:
@@ -83,10 +91,10 @@ def split_options(words: List[str], known: Tuple[Option, ...]) -> Tuple[List[str
         option = named(name, known)
         if equals and not option.value:
             raise WrongCall(f"`{option.name}` takes no value")
-        if option.value and not equals and not option.is_value_optional:
-            if not left:
-                raise WrongCall(f"`{option.name}` takes a value, {option.value}")
-            value = left.pop(0)
+        if option.value and not equals:
+            value = take_value(option, left)
+        if option.choices and value and value not in option.choices:
+            raise WrongCall(f"`{option.name}` takes {', '.join(option.choices[:-1])} or {option.choices[-1]}, and not `{value}`")
         options[option.name] = value
     return rest, options
 
@@ -194,15 +202,13 @@ def parsed(program: Program, words: List[str]) -> Call:
         if name not in (option.name for option in options_of(word)):
             raise WrongCall(f"`{word.name}` has no option `{name}`")
     left = plain[1:]
-    call = Call(program, word, options=options)
     if word.takes is Takes.ONE_OF:
-        call.choice = left[0] if left else ""
-        return call
+        return Call(program, word, options, choice=left[0] if left else "")
     folder = take_folder(word, left)
-    call.numbers = take_numbers(word, left, "--time" in options)
-    call.ticks = take_ticks(word, left)
-    call.way = take_way(word, left)
-    call.files = (*folder, *left)
+    numbers = take_numbers(word, left, "--time" in options)
+    ticks = take_ticks(word, left)
+    way = take_way(word, left)
+    call = Call(program, word, options, numbers, ticks, way, (*folder, *left))
     check_files(call)
     return call
 

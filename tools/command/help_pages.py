@@ -12,7 +12,7 @@ WIDTH, INDENT = 80, 2
 
 def written(option: Option) -> str:
     """An option as it is typed."""
-    value = f"[={option.value}]" if option.is_value_optional else f" {option.value}" if option.value else ""
+    value = f"[={option.value}]" if option.choices else f" {option.value}" if option.value else ""
     short = f"{option.short}, " if option.short else ""
     return f"{short}{option.name}{value}"
 
@@ -64,7 +64,7 @@ def of_word(program: Program, word: Word) -> str:
     """The page of a word."""
     forms = "\n".join(f"{'Usage: ' if number == 0 else '       '}{program.name} {form}" for number, form in enumerate(word.forms))
     parts = [
-        f"{program.name} {word.name}: {word.meaning}",
+        paragraph(f"{program.name} {word.name}: {word.meaning}"),
         forms,
         *(paragraph(text) for text in word.more),
         "Options stand anywhere\n" + options(options_of(word)),

@@ -1,14 +1,13 @@
 """A person's call: reads its words, and has it done."""
 from __future__ import annotations
 
+import io
 import sys
 from typing import List
 
 from . import files, refusals, running
 from .call import Call, WrongCall, asks_for_help, parsed
-from .words import PROGRAMS, Takes, Word
-
-WRONG_WORDS = refusals.WRONG_WORDS
+from .words import PROGRAMS, Takes
 
 
 def help_of(name: str, words: List[str]) -> int:
@@ -19,15 +18,6 @@ def help_of(name: str, words: List[str]) -> int:
     named = next((program.word(word) for word in words if program.word(word)), None)
     print(help_pages.of_word(program, named) if named and named.name != "help" else help_pages.of_program(program))
     return 0
-
-
-def wrong(name: str, typed: str, words: List[str], why: WrongCall) -> int:
-    """Says what is wrong; the program then writes its line of usage, with its status."""
-    refusals.tell_wrong(typed, why)
-    sys.stderr.flush()
-    if sys.stdout.isatty():
-        return WRONG_WORDS
-    running.become([running.program_of(name), *words], b"")
 
 
 def done(call: Call) -> int:
@@ -66,6 +56,8 @@ def main(words: List[str]) -> int:
     typed, rest = words[0], words[1:]
     name = running.shown_name(typed)
     running.heed_signals()
+    if isinstance(sys.stdout, io.TextIOWrapper):
+        sys.stdout.reconfigure(errors="surrogateescape")  # (the names of files may be any bytes)
     try:
         if asks_for_help(rest):
             return help_of(name, rest)
@@ -73,7 +65,8 @@ def main(words: List[str]) -> int:
             running.become([running.launcher(name), "--version"], None)
         return done(parsed(PROGRAMS[name], rest))
     except WrongCall as why:
-        return wrong(name, typed, rest, why)
+        refusals.tell_wrong(typed, why)
+        return refusals.WRONG_WORDS
     except running.Stopped as stopped:
         return stopped.status
     except BrokenPipeError:

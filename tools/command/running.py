@@ -116,7 +116,8 @@ def become(words: List[str], given: Input, most: Optional[int] = None) -> NoRetu
     if isinstance(given, str):
         os.dup2(os.open(given, os.O_RDONLY), 0)
     elif given is not None:
-        os.dup2(memory_file(given).fileno(), 0)
+        held = memory_file(given)
+        os.dup2(held.fileno(), 0)
     chosen = processors(most)
     if chosen:
         os.sched_setaffinity(0, chosen)

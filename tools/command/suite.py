@@ -4,9 +4,9 @@ from __future__ import annotations
 import os
 from typing import List
 
-from . import colours, files, hunt, refusals, reports, running, tables
+from . import colours, files, hunt, reports, running, tables
 from .call import Call
-from .words import JOBS
+from .words import JOBS, REFUSED
 
 
 def scenarios_in(folder: str) -> List[str]:
@@ -18,7 +18,7 @@ def scenarios_in(folder: str) -> List[str]:
 
 def line_of(number: int, case: reports.Case) -> str:
     """The line of TAP for a scenario."""
-    name = os.path.basename(case.path)
+    name = os.path.basename(case.name)
     if case.status == 0:
         return f"ok {number} - {name}"
     return f"not ok {number} - {name} # {case.table.worst if case.table else case.text.strip()}"
@@ -26,11 +26,9 @@ def line_of(number: int, case: reports.Case) -> str:
 
 def tried(call: Call, program: str, path: str) -> reports.Case:
     """What the hunt in a scenario came to."""
-    with open(path, "rb") as file:
-        text = file.read()
-    status, table = running.answer([program, "seeds", *call.numbers], text, hunt.number_option(call, JOBS.name))
+    status, table = running.answer([program, "seeds", *call.numbers], path, hunt.number_option(call, JOBS.name))
     written = table.decode("ascii", errors="replace")
-    return reports.Case(path, written, status, None if status in refusals.REFUSED else tables.read(written))
+    return reports.Case(path, written, status, None if status in REFUSED else tables.read(written))
 
 
 def do(call: Call, program: str) -> int:
@@ -40,13 +38,13 @@ def do(call: Call, program: str) -> int:
         if most:
             os.sched_setaffinity(0, running.processors(most) or [])
         return files.do(call, program)
+    reports.check(call)
     paths, cases = scenarios_in(call.files[0]), []
-    is_shown = "-" not in call.options.values()
     lines = [f"1..{len(paths)}"]
     for number, path in enumerate(paths, 1):
         cases.append(tried(call, program, path))
         lines.append(line_of(number, cases[-1]))
-    if is_shown:
+    if not reports.are_on_output(call):
         print(colours.painted("\n".join(lines) + "\n", call.options), end="")
     reports.write(call, cases)
     return 0 if cases and not any(case.status for case in cases) else 1

@@ -42,7 +42,7 @@ class Row:
         return int(place.group("line")) if place else None
 
     def __str__(self) -> str:
-        return f"{self.count} seeds, seed {self.seed} in {self.events} events: {self.kind}"
+        return f"seed {self.seed} in {self.events} events: {self.kind}"
 
 
 @dataclass(frozen=True)

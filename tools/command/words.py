@@ -6,8 +6,7 @@ itself knows are in its own crate, and are proved; test_command.py compares the 
 from __future__ import annotations
 
 import enum
-from dataclasses import dataclass
-from typing import Optional, Tuple
+from typing import NamedTuple, Optional, Tuple
 
 
 class Reads(enum.Enum):
@@ -38,27 +37,24 @@ class Takes(enum.Enum):
     ONE_OF = enum.auto()  # one of the word's choices
 
 
-@dataclass(frozen=True)
-class Option:
+class Option(NamedTuple):
     """An option: it stands anywhere after the program's name."""
 
     name: str
     meaning: str
     value: str = ""
     short: str = ""
-    is_value_optional: bool = False
+    choices: Tuple[str, ...] = ()  # its values; it may then be left out
 
 
-@dataclass(frozen=True)
-class Example:
+class Example(NamedTuple):
     """A line for a shell, and what it is for."""
 
     line: str
     meaning: str
 
 
-@dataclass(frozen=True)
-class Word:
+class Word(NamedTuple):
     """A word of a program: what comes first after the program's name."""
 
     name: str
@@ -77,8 +73,7 @@ class Word:
     is_proved: bool = True  # whether the program itself knows it, and not the launcher alone
 
 
-@dataclass(frozen=True)
-class Program:
+class Program(NamedTuple):
     """A program: its name, what it is for, and its words."""
 
     name: str
@@ -94,7 +89,7 @@ class Program:
 
 HELP = Option("--help", "shows a page of help, of the program or of the word that is named", short="-h")
 VERSION = Option("--version", "says which version this is, and whether the program is proved")
-COLOR = Option("--color", "colours `always`, `never`, or `auto`: on a terminal, unless NO_COLOR is set", value="WHEN", is_value_optional=True)
+COLOR = Option("--color", "colours `always`, `never`, or `auto`: on a terminal, unless NO_COLOR is set", value="WHEN", choices=("always", "never", "auto"))
 COMMON = (HELP, VERSION, COLOR)
 
 JOBS = Option("--jobs", "uses at most N processors", value="N", short="-j")
@@ -171,7 +166,7 @@ SIMULATOR = Program(
             "run",
             "runs it in threads, which pick the order; each time it may be another one",
             ("run [FILE..]",),
-            (Example("./kmdfsim run examples/echo.kmdf > run.trace", "keeps the trace: nothing else brings this run back"),),
+            (Example("./kmdfsim run examples/echo.kmdf > run.trace", "keeps the trace, since nothing else brings this run back"),),
         ),
         Word(
             "watch",
@@ -353,6 +348,16 @@ VIEWER = Program(
     ),
     WAY_EXAMPLES,
 )
+
+# What may stand after some words, and what it says.
+CHOICES = {
+    "order": "the run by the `order` block",
+    "seed": "the run of a seed, N",
+    "run": "a run in threads",
+    "jitter": "moves `at` lines by up to so many ticks",
+    "bash": "for bash",
+    "zsh": "for zsh",
+}
 
 PROGRAMS = {program.name: program for program in (SIMULATOR, HUNTER, VIEWER)}
 
