@@ -233,6 +233,8 @@ def make_package(release: Release, room: str, to: str):
         kind = "zsh/vendor-completions" if name.startswith("_") else "bash-completion/completions"
         os.makedirs(os.path.join(share, kind), exist_ok=True)
         shutil.copy(os.path.join(room, "completion", name), os.path.join(share, kind, name))
+    for name in NAMES[1:]:  # (bash looks for a file of the command's name)
+        os.symlink(NAMES[0], os.path.join(share, "bash-completion/completions", name))
     for at, folders, names in os.walk(top):
         for name in [*folders, *names]:
             path = os.path.join(at, name)
