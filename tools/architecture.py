@@ -1,5 +1,5 @@
 #!/usr/bin/env python3
-"""Writes the tables of crates in docs/ARCHITECTURE.md, or with --check says whether they are what it would write.
+"""Writes the tables of crates in docs/owner/ARCHITECTURE.md, or with --check says whether they are what it would write.
 
 A group is a comment of crates.txt with the crates right below it. Its heading is the comment up to its first comma or colon. A
 crate's line is the first paragraph of the head of its lib.rt (main.rt of a program). The rest of the page is written by hand.
@@ -12,7 +12,7 @@ from pathlib import Path
 ROOT = Path(__file__).resolve().parent.parent
 CRATES = ROOT / "crates"
 LIST = ROOT / "crates.txt"
-PAGE = ROOT / "docs" / "ARCHITECTURE.md"
+PAGE = ROOT / "docs" / "owner" / "ARCHITECTURE.md"
 BEGIN = "<!-- tools/architecture.py writes what follows -->\n"
 END = "<!-- and up to here -->\n"
 
@@ -65,7 +65,7 @@ def tables():
         out.append(f"\n### {heading}\n\n{note}| crate | what it is |\n|---|---|")
         for crate in crates:
             name, words = head_of(crate)
-            out.append(f"| [{crate}](../crates/{crate}/{name}) | {words} |")
+            out.append(f"| [{crate}](../../crates/{crate}/{name}) | {words} |")
     return "\n".join(out) + "\n\n"
 
 
@@ -73,7 +73,7 @@ def page():
     """The whole page, with the tables as they should be."""
     text = PAGE.read_text(encoding="utf-8")
     if text.count(BEGIN) != 1 or text.count(END) != 1:
-        raise Lost(f"docs/{PAGE.name} has no place for the tables: between two lines\n{BEGIN}{END}")
+        raise Lost(f"docs/owner/{PAGE.name} has no place for the tables: between two lines\n{BEGIN}{END}")
     before, rest = text.split(BEGIN)
     return before + BEGIN + tables() + END + rest.split(END)[1]
 
@@ -86,7 +86,7 @@ def main():
     if "--check" not in sys.argv[1:]:
         PAGE.write_text(text, encoding="utf-8")
     elif PAGE.read_text(encoding="utf-8") != text:
-        sys.exit("the crates in docs/ARCHITECTURE.md aren't what tools/architecture.py writes: run it")
+        sys.exit("the crates in docs/owner/ARCHITECTURE.md aren't what tools/architecture.py writes: run it")
 
 
 if __name__ == "__main__":

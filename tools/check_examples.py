@@ -3,7 +3,7 @@
 
     python3 tools/check_examples.py [PROGRAM [SEEDS [HUNTER]]]
 
-In README.md and the pages of docs/ a fenced block `kmdf` is a whole scenario; `kmdf blocks`, `kmdf device` and
+In README.md and the pages below docs/ a fenced block `kmdf` is a whole scenario; `kmdf blocks`, `kmdf device` and
 `kmdf statements` are put where such lines belong, with the declarations below. `check` must accept each, and leave what it
 writes as it is. A block `trace` is the run that `order` writes for the example before it; `trace WORDS of FILE` is the end
 of what these words write for that file. A block `console` is what a person types and sees: after `$` a line for a shell, and
@@ -25,12 +25,14 @@ import re
 import subprocess
 import sys
 import tempfile
+from pathlib import Path
 
 sys.dont_write_bytecode = True
 from built import HUNTER, PROGRAM, ROOT, program_at
 
-GUIDE = os.path.join("docs", "SCENARIO.md")
-DOCUMENTS = ("README.md", *(os.path.join("docs", name) for name in sorted(os.listdir(os.path.join(ROOT, "docs"))) if name.endswith(".md")))
+# The page with the tables of what is refused, and of faults.
+TROUBLE = os.path.join("docs", "guide", "TROUBLE.md")
+DOCUMENTS = ("README.md", *(str(path.relative_to(ROOT)) for path in sorted(Path(ROOT, "docs").rglob("*.md"))))
 
 HEAD = "cpus 1\nlimit 100\nobjects 64\n"
 DECLARED = """class Note object
@@ -69,7 +71,7 @@ ENDING = re.compile(r"^(finished|fault|stuck|limit) \d+$", re.MULTILINE)
 STATUSES = {"finished": 0, "fault": 3, "stuck": 4, "limit": 5}
 FENCED = re.compile(r"^```(kmdf|trace|console)(?: ([^\n]+))?\n(.*?)^```$", re.MULTILINE | re.DOTALL)
 SLIPS = re.compile(r"^\| written \|.*?\n\n", re.MULTILINE | re.DOTALL)
-# The sections of the guide with tables of names that say how a text, a plan, a trace or a driver is refused.
+# Its sections with tables of names that say how a text, a plan, a trace or a driver is refused.
 NAMING = ("Keeping a trace, and checking it again", "When a text is refused", "When a plan is refused", "When the driver is at fault")
 SEED = re.compile(r"^# Seed (\d+): (.*)$", re.MULTILINE)
 
@@ -155,17 +157,17 @@ def written_out(cell):
 def check_slips(program):
     """The faults of the table of what a C programmer writes, and how many rows it has."""
     before, after = AROUND["statements"]
-    faults, rows = [], SLIPS.search(read(GUIDE)).group().strip().split("\n")[2:]
+    faults, rows = [], SLIPS.search(read(TROUBLE)).group().strip().split("\n")[2:]
     for row in rows:
         written, name, meant = (cell.strip() for cell in row.strip("| ").split(" | "))
         lines, text = written_out(written)
         answer = call(program, "check", before + text + after)[1]
         due = (before + "let a = 1\nlet b = 2\n").count("\n") + len(lines)
         if not re.fullmatch(rf"\w+ refused at line {due}( column \d+)?: {name.strip('`')}\n", answer):
-            faults.append(f"{GUIDE}: {written}: {answer.strip()}, and not line {due}")
+            faults.append(f"{TROUBLE}: {written}: {answer.strip()}, and not line {due}")
         fault = check(program, before + written_out(meant)[1] + after)
         if fault:
-            faults.append(f"{GUIDE}: {meant}: {fault}")
+            faults.append(f"{TROUBLE}: {meant}: {fault}")
     return faults, len(rows)
 
 
@@ -185,7 +187,7 @@ def answered(program, words, text):
 def check_refused(program):
     """The faults of scenarios/refused, and how many texts it has: each name of the guide's tables, and nothing else."""
     faults, names = [], set()
-    guide = read(GUIDE)
+    guide = read(TROUBLE)
     for title in NAMING:
         section = re.search(rf"^##+ {re.escape(title)}\n(.*?)(?=^##+ |\Z)", guide, re.MULTILINE | re.DOTALL).group(1)
         for cell in re.findall(r"^\| (`[^|]*) \|", SLIPS.sub("", section + "\n"), re.MULTILINE):

@@ -1,5 +1,5 @@
 #!/usr/bin/env python3
-"""Says which names in README.md and docs/*.md name nothing: paths, crates, functions of crates, files, places of pages.
+"""Says which names in README.md and the pages below docs/ name nothing: paths, crates, functions of crates, files, places of pages.
 
 Looked at are words in backquotes and links. A path is what has a slash and begins with a folder of the repository; one with a
 part in capitals, as crates/NAME/out, is a form. A word that begins as crates do is a crate, a function of one or a script. `f`
@@ -110,7 +110,7 @@ def main():
     names = Names(ROOT)
     wrong = [
         f"{page.relative_to(ROOT)}: {what} (line {number})"
-        for page in [ROOT / "README.md", *sorted((ROOT / "docs").glob("*.md"))]
+        for page in [ROOT / "README.md", *sorted((ROOT / "docs").rglob("*.md"))]
         for number, what in wrong_in(page, names)
     ]
     wrong += [f"tools/README.md: {script}" for script in not_in_the_index(ROOT)]

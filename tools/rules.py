@@ -31,12 +31,12 @@ TESTS = ("test_", "check_")
 
 HEAD = """# The rules of the machine, and where each is kept
 
-`tools/rules.py` writes this page from `tools/rules.txt` and checks it in the gate: each name is there. `docs/MACHINE.md` explains
-the rules to a driver writer, `docs/STACKS.md` those of stacks and `docs/LINT.md` those of the static check; each links from its
+`tools/rules.py` writes this page from `tools/rules.txt` and checks it in the gate: each name is there. `docs/guide/MACHINE.md` explains
+the rules to a driver writer, `docs/guide/STACKS_AND_IDLE.md` those of stacks and `docs/guide/LINT.md` those of the static check; each links from its
 subjects to the rules here. From [Texts of scenarios](#texts-of-scenarios) on the rules are of what is around the machine: texts,
 plans, traces, the program, threads, containers, pictures. In a row:
 
-- **definition**: what the rule is. [How to read a definition](MACHINE.md#how-to-read-a-definition) explains the signs and letters.
+- **definition**: what the rule is. [How to read a definition](proof/READING.md) explains the signs and letters.
 - **code**: functions whose contracts name the definition: first those of its name, most of which are said to be the definition.
   After `edited` stand the others in which a wrong body of the row lies.
 - **law**: a statement that is proved of all runs, or of all states, and that the rule is for, or that rests on it. A few are of worked

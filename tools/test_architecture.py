@@ -19,7 +19,7 @@ kmdfsim: wdf_base
 """
 FILES = {
     "crates.txt": LIST,
-    "docs/ARCHITECTURE.md": "# The map\n\n" + architecture.BEGIN + "old\n" + architecture.END + "\nThe end.\n",
+    "docs/owner/ARCHITECTURE.md": "# The map\n\n" + architecture.BEGIN + "old\n" + architecture.END + "\nThe end.\n",
     "crates/wdf_text/src/lib.rt": "//! Text: `a | b`,\n//! in two lines.\n//!\n//! # Choices\n#![tactic(auto)]\n",
     "crates/wdf_base/src/lib.rt": "//! Types.\nmod a;\n",
     "crates/kmdfsim/src/main.rt": "//! Main.\n\nfn main() {}\n",
@@ -33,14 +33,14 @@ Lowest first.
 
 | crate | what it is |
 |---|---|
-| [wdf_text](../crates/wdf_text/src/lib.rt) | Text: `a \\| b`, in two lines. |
-| [wdf_base](../crates/wdf_base/src/lib.rt) | Types. |
+| [wdf_text](../../crates/wdf_text/src/lib.rt) | Text: `a \\| b`, in two lines. |
+| [wdf_base](../../crates/wdf_base/src/lib.rt) | Types. |
 
 ### The program
 
 | crate | what it is |
 |---|---|
-| [kmdfsim](../crates/kmdfsim/src/main.rt) | Main. |
+| [kmdfsim](../../crates/kmdfsim/src/main.rt) | Main. |
 
 {architecture.END}
 The end.
@@ -50,7 +50,7 @@ REFUSED = [
     ("crates.txt", "# Types and text, lowest first.\n", "", "crates.txt: wdf_text is in no group"),
     ("crates.txt", "wdf_text:\n", "wdf_words:\n", "crates.txt has wdf_words, and crates/wdf_words has no src/lib.rt"),
     ("crates/wdf_base/src/lib.rt", "//! Types.\n", "// Types.\n", "crates/wdf_base/src/lib.rt has no head that says what the crate is"),
-    ("docs/ARCHITECTURE.md", architecture.BEGIN, "", "docs/ARCHITECTURE.md has no place for the tables: between two lines"),
+    ("docs/owner/ARCHITECTURE.md", architecture.BEGIN, "", "docs/owner/ARCHITECTURE.md has no place for the tables: between two lines"),
 ]
 
 
@@ -58,7 +58,7 @@ def page_of(files):
     """The page for a made tree, or what the script says of it."""
     with tempfile.TemporaryDirectory() as room:
         root = Path(room)
-        architecture.CRATES, architecture.LIST, architecture.PAGE = root / "crates", root / "crates.txt", root / "docs/ARCHITECTURE.md"
+        architecture.CRATES, architecture.LIST, architecture.PAGE = root / "crates", root / "crates.txt", root / "docs/owner/ARCHITECTURE.md"
         for place, text in files.items():
             (root / place).parent.mkdir(parents=True, exist_ok=True)
             (root / place).write_text(text)

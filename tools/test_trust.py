@@ -106,12 +106,12 @@ FILES = {
 }
 GROUPS = [("Words", "All words.", "wdf_base/Words"), ("Promises", "All promises.", "wdf_serve"), ("Lists", "All lists.", "wdf_base")]
 WANTED = [
-    "| [wdf_base Words](../crates/wdf_base/specs/Words.antt) | Words | 2 |  |",
-    "| [wdf_serve Promises](../crates/wdf_serve/specs/Promises.antt) | What is promised | 9 | 6 |",
-    "| [wdf_base Lists](../crates/wdf_base/specs/Lists.antt) | Lists: their items | 2 |  |",
-    "| [wdf_base items](../crates/wdf_base/src/items.rt) | `MANY`, `Items` | 7 |  |",
-    "| [wdf_base plan](../crates/wdf_base/src/plan.rt) | `Plan` | 3 |  |",
-    "| [wdf_io flow](../crates/wdf_io/src/flow.rt) | `Flow` | 3 |  |",
+    "| [wdf_base Words](../../crates/wdf_base/specs/Words.antt) | Words | 2 |  |",
+    "| [wdf_serve Promises](../../crates/wdf_serve/specs/Promises.antt) | What is promised | 9 | 6 |",
+    "| [wdf_base Lists](../../crates/wdf_base/specs/Lists.antt) | Lists: their items | 2 |  |",
+    "| [wdf_base items](../../crates/wdf_base/src/items.rt) | `MANY`, `Items` | 7 |  |",
+    "| [wdf_base plan](../../crates/wdf_base/src/plan.rt) | `Plan` | 3 |  |",
+    "| [wdf_io flow](../../crates/wdf_io/src/flow.rt) | `Flow` | 3 |  |",
 ]
 # What is changed in one file, and what the script says then.
 REFUSED = [

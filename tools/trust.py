@@ -1,5 +1,5 @@
 #!/usr/bin/env python3
-"""Writes docs/TRUST.md: what one has to believe of the headline.
+"""Writes docs/proof/TRUST.md: what one has to believe of the headline.
 
     python3 tools/trust.py             writes the page
     python3 tools/trust.py --check     says whether the page is what it would write
@@ -16,7 +16,7 @@ from pathlib import Path
 
 ROOT = Path(__file__).resolve().parent.parent
 CRATES = ROOT / "crates"
-PAGE = ROOT / "docs" / "TRUST.md"
+PAGE = ROOT / "docs" / "proof" / "TRUST.md"
 START = ("wdf_serve", "src/program.rt", "serve")
 CLAUSE = "headline"
 
@@ -35,7 +35,7 @@ GROUPS = [
     ),
     (
         "The machine's rules",
-        "What may come and in which order, and what each event does. `docs/MACHINE.md` explains them, `docs/RULES.md` has a row for each.",
+        "What may come and in which order, and what each event does. `docs/guide/MACHINE.md` explains them, `docs/RULES.md` has a row for each.",
         "wdf_model/rules/Steps wdf_model/rules/Deeds wdf_model/rules/Groups wdf_model/rules/Starts wdf_model/rules/Script"
         " wdf_model/rules/Calls wdf_model/rules/Faults wdf_model/rules/Posts wdf_model/rules/Waits wdf_model/rules"
         " wdf_base/Callbacks wdf_base/Calls",
@@ -71,7 +71,7 @@ HEAD = """# What one has to believe
 > run ends at a driver fault, at the event limit, or where the machine has no further step. And every such run keeps nine laws.
 
 It is said of the words `order`, `seed N`, `run`, `watch`, `idle` and `stack`, where the status is 0, 3, 4 or 5. It is the clause
-`headline` in the contract of [`serve`](../crates/wdf_serve/src/program.rt), and the record `WroteSomeRun` spells it out. The other
+`headline` in the contract of [`serve`](../../crates/wdf_serve/src/program.rt), and the record `WroteSomeRun` spells it out. The other
 clauses say what else the program promises: which text is due with which status, for all words and all input.
 
 Whether the clauses hold needs no trust: the prover checks it. What they *mean* does, and that is in the definitions below.
@@ -81,18 +81,18 @@ wrong in any way that the prover lets through, and what is promised still holds.
 
 ## What else is trusted
 
-- [`main`](../crates/kmdfsim/src/main.rt), which has no contract. Its one call hands the system's arguments and streams to `serve`,
+- [`main`](../../crates/kmdfsim/src/main.rt), which has no contract. Its one call hands the system's arguments and streams to `serve`,
   and it ends with the status that `serve` answers.
 - The toolchain: the prover's logic, what it takes a struct or an enum to mean, the compiler, the C library, the processor. Then
   the definitions of the kit's libraries: {kits}. And that the kit's crates which the code calls meet their contracts;
-  `docs/PROVED.md` lists them. `rt version` names the kit, and `README.md` says with which this was proved.
+  `docs/proof/CLAIMS.md` lists them. `rt version` names the kit, and `README.md` says with which this was proved.
 - The system's streams: no contract can say what a file or a terminal gives or takes. What is said of bytes is said of a
   reader and a writer that say theirs.
 - That the written machine is the Kernel-Mode Driver Framework in the stated profile. Each rule of `docs/RULES.md` names its
   definition, and most comments mark theirs with (KMDF) or (own).
 
 No clause says that memory is there when there should be some, that `run` or `watch` returns, or how long anything takes.
-`docs/PROVED.md` has the bounds of each claim, and what is only tested.
+`docs/proof/CLAIMS.md` has the bounds of each claim, and what is only tested.
 
 ## How to check this page
 
@@ -101,8 +101,8 @@ definition is in its own file, or is imported there from a file of this list, fr
 the kit. `python3 tools/trust.py --why NAME` writes the chain of names from `serve` to a definition.
 
 Lines are those of the definitions that are needed, without imports and comments; a file may have others. The last column counts
-those that the headline alone needs. The groups are in reading order. The signs and letters of definitions are explained at the
-end of `docs/MACHINE.md`.
+those that the headline alone needs. The groups are in reading order. The signs and letters of definitions are explained on the
+page `docs/proof/READING.md`.
 """
 
 TYPES = """
@@ -381,12 +381,12 @@ def page():
         if mine:
             out.append(f"\n## {heading}\n\n{intro}\n\n| file | what it says | lines | headline |\n|---|---|---|---|")
         for crate, place in sorted(mine, key=lambda at: (order_of(at, number), list(lines).index(at))):
-            shown = f"[{crate} {place[6:-5]}](../crates/{crate}/{place})"
+            shown = f"[{crate} {place[6:-5]}](../../crates/{crate}/{place})"
             out.append(f"| {shown} | {subject_of(crate, place)} | {lines[crate, place]} | {few.get((crate, place), 0) or ''} |")
     out.append(TYPES)
     for crate, place in code:
         names = ", ".join(f"`{name}`" for name in sources.file(crate, place).types if (crate, place, name) in needed)
-        out.append(f"| [{crate} {place[4:-3]}](../crates/{crate}/{place}) | {names} | {lines[crate, place]} | {few.get((crate, place), 0) or ''} |")
+        out.append(f"| [{crate} {place[4:-3]}](../../crates/{crate}/{place}) | {names} | {lines[crate, place]} | {few.get((crate, place), 0) or ''} |")
     return "\n".join(out) + "\n"
 
 
@@ -421,7 +421,7 @@ def main():
         sys.exit(str(lost))
     if "--check" in words:
         if not PAGE.exists() or PAGE.read_text(encoding="utf-8") != text:
-            sys.exit("docs/TRUST.md isn't what tools/trust.py writes: run it")
+            sys.exit("docs/proof/TRUST.md isn't what tools/trust.py writes: run it")
     else:
         PAGE.write_text(text, encoding="utf-8")
 
