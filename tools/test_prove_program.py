@@ -1,5 +1,4 @@
-#!/usr/bin/env python3
-"""A test of ./kmdfsim and tools/prove_program.py over a small made tree, with a made `rt` that proves nothing.
+"""Tests of ./kmdfsim and tools/prove_program.py over a small made tree, with a made `rt` that proves nothing.
 
 The first call proves only the crates that the program needs, without their wrong bodies, and says a line for each. An
 unchanged call proves nothing, nor does one where only times changed. A changed source, a new file and a removed one are found.
@@ -14,6 +13,7 @@ import subprocess
 import sys
 import tempfile
 import time
+import unittest
 
 ROOT = os.path.dirname(os.path.dirname(os.path.abspath(__file__)))
 CRATES = "# the crates\nlow:\nmid: low std_like\nlaw: low\nkmdfsim: mid\n"
@@ -65,7 +65,7 @@ class Tree:
             file.write(text)
 
     def begin(self, command):
-        given = {**os.environ, "PATH": f"{self.top}/bin:{os.environ['PATH']}", "CALLS": self.calls, "TMPDIR": self.top, "XDG_CACHE_HOME": os.path.join(self.top, "cache")}
+        given = {**os.environ, "PATH": f"{self.top}/bin:{os.environ['PATH']}", "CALLS": self.calls, "TMPDIR": self.top, "XDG_CACHE_HOME": os.path.join(self.top, "cache"), "KMDFSIM_PROVED": "1"}
         # A group of its own, to be sent a signal as one from a terminal; where the gate runs in the background, signals that
         # it was told to ignore count again.
         how = {"stdin": subprocess.DEVNULL, "stdout": subprocess.PIPE, "stderr": subprocess.PIPE, "text": True}
@@ -86,82 +86,85 @@ class Tree:
             return file.read().strip()
 
 
-def check(what, holds, *seen):
-    if not holds:
-        sys.exit(f"not so: {what}: {seen}")
+class Launcher(unittest.TestCase):
+    def setUp(self):
+        top = tempfile.TemporaryDirectory()
+        self.addCleanup(top.cleanup)
+        self.tree = Tree(top.name)
+        self.out = os.path.join(top.name, "crates/kmdfsim/out")
 
+    def assert_proves_nothing(self, out, command="./kmdfsim"):
+        self.assertEqual(self.tree.call(command), (0, out, "", ""))
 
-def proves_what_is_needed(tree):
-    status, out, said, called = tree.call()
-    check("the program runs", (status, out) == (0, "one\n"), status, out, said)
-    check("only the program's crates are proved", called == "low mid kmdfsim", called)
-    check("each has its line", "kmdfsim: mid proved; " in said and "3 of 3 crates" in said, said)
-    check("an unchanged call proves nothing", tree.call() == (0, "one\n", "", ""))
-    os.symlink(os.path.join(tree.top, "kmdfsim"), os.path.join(tree.top, "bin/simulate"))
-    check("nor does one by a link", tree.call("bin/simulate") == (0, "one\n", "", ""))
-    os.utime(os.path.join(tree.top, "crates/low/src/lib.rt"))
-    check("new times alone prove nothing", tree.call() == (0, "one\n", "", ""))
-    tree.put("crates/law/src/lib.rt", "other\n")
-    check("nor does another crate", tree.call() == (0, "one\n", "", ""))
+    def assert_proves(self, out):
+        """A call proves the program's crates alone, says a line for each, and runs it."""
+        status, written, said, called = self.tree.call()
+        self.assertEqual((status, written, called), (0, out, "low mid kmdfsim"))
+        self.assertIn("kmdfsim: mid proved; ", said)
+        self.assertIn("3 of 3 crates", said)
 
+    def leave_by_gate(self):
+        shutil.rmtree(self.out, ignore_errors=True)
+        self.tree.put("crates/kmdfsim/out/kmdfsim", "#!/bin/sh\necho gate\n")
+        os.chmod(os.path.join(self.out, "kmdfsim"), 0o755)
 
-def finds_changes(tree):
-    tree.put("crates/mid/src/lib.rt", "#!/bin/sh\necho two\n")
-    check("a changed source is found", tree.call()[1::2] == ("two\n", "low mid kmdfsim"))
-    tree.put("crates/low/src/more.rt", "")
-    check("a new file is found", tree.call()[3] == "low mid kmdfsim")
-    os.remove(os.path.join(tree.top, "crates/low/src/more.rt"))
-    check("a removed file is found, and then all is as it was", tree.call() == (0, "two\n", "", ""))
-    shutil.rmtree(os.path.join(tree.top, "crates/kmdfsim/out"))
-    check("another clone takes the program that was kept", tree.call() == (0, "two\n", "", ""))
-    shutil.rmtree(os.path.join(tree.top, "cache"))
-    shutil.rmtree(os.path.join(tree.top, "crates/kmdfsim/out"))
-    check("without it the crates are proved", tree.call()[1::2] == ("two\n", "low mid kmdfsim"))
+    def test_proves_what_is_needed(self):
+        self.assert_proves("one\n")
+        self.assert_proves_nothing("one\n")
+        os.symlink(os.path.join(self.tree.top, "kmdfsim"), os.path.join(self.tree.top, "bin/simulate"))
+        self.assert_proves_nothing("one\n", "bin/simulate")
+        os.utime(os.path.join(self.tree.top, "crates/low/src/lib.rt"))
+        self.assert_proves_nothing("one\n")
+        self.tree.put("crates/law/src/lib.rt", "other\n")
+        self.assert_proves_nothing("one\n")
 
+    def test_finds_changes(self):
+        self.assert_proves("one\n")
+        self.tree.put("crates/mid/src/lib.rt", "#!/bin/sh\necho two\n")
+        self.assert_proves("two\n")
+        self.tree.put("crates/low/src/more.rt", "")
+        self.assert_proves("two\n")
+        os.remove(os.path.join(self.tree.top, "crates/low/src/more.rt"))
+        self.assert_proves_nothing("two\n")
 
-def takes_what_the_gate_left(tree):
-    out = os.path.join(tree.top, "crates/kmdfsim/out")
-    shutil.rmtree(out)
-    tree.put("crates/kmdfsim/out/kmdfsim", "#!/bin/sh\necho gate\n")
-    os.chmod(os.path.join(out, "kmdfsim"), 0o755)
-    check("the gate's program is taken", tree.call() == (0, "gate\n", "", ""))
-    shutil.rmtree(out)
-    tree.put("crates/kmdfsim/out/kmdfsim", "#!/bin/sh\necho gate\n")
-    os.chmod(os.path.join(out, "kmdfsim"), 0o755)
-    os.utime(os.path.join(tree.top, "crates/low/src/lib.rt"), (time.time() + 5, time.time() + 5))
-    check("but not where a source is newer", tree.call()[:2] == (0, "two\n"))
-    os.utime(os.path.join(tree.top, "crates/low/src/lib.rt"))
+    def test_takes_a_program_that_was_kept(self):
+        self.assert_proves("one\n")
+        shutil.rmtree(self.out)
+        self.assert_proves_nothing("one\n")
+        shutil.rmtree(os.path.join(self.tree.top, "cache"))
+        shutil.rmtree(self.out)
+        self.assert_proves("one\n")
 
+    def test_takes_what_the_gate_left(self):
+        self.leave_by_gate()
+        self.assert_proves_nothing("gate\n")
+        self.leave_by_gate()
+        os.utime(os.path.join(self.tree.top, "crates/low/src/lib.rt"), (time.time() + 5, time.time() + 5))
+        self.assert_proves("one\n")
 
-def says_what_failed(tree):
-    tree.put("crates/mid/src/wrong.rt", "")
-    status, out, said, _ = tree.call()
-    check("a failed proof runs nothing", (status, out) == (1, ""), status, out)
-    check("the end of the log is shown", "rt: mid NOT PROVED" in said and "crates/kmdfsim/out/proving.log" in said, said)
-    os.rename(os.path.join(tree.top, "crates/mid/src/wrong.rt"), os.path.join(tree.top, "crates/mid/src/slow.rt"))
-    run = tree.begin("./kmdfsim")
-    for _ in range(3000):
-        time.sleep(0.1)
-        if os.path.exists(os.path.join(tree.top, "crates/kmdfsim/out/proving.log")) and tree.called().count("\n") >= 1:
-            break
-    os.killpg(run.pid, signal.SIGINT)
-    out, said = run.communicate(timeout=600)
-    check("a stopped call runs nothing", (run.returncode, out) == (130, ""), run.returncode, out, said)
-    check("and shows the end of the log", "stopped" in said and "proving.log" in said, said)
-    left = [name for name in os.listdir(tree.top) if name.startswith("kmdfsim-proving")]
-    check("nothing is left", left == [], left)
-    os.remove(os.path.join(tree.top, "crates/mid/src/slow.rt"))
-    check("the next call goes on", tree.call()[:2] == (0, "two\n"))
+    def test_a_failed_proof_runs_nothing(self):
+        self.tree.put("crates/mid/src/wrong.rt", "")
+        status, out, said, _ = self.tree.call()
+        self.assertEqual((status, out), (1, ""))
+        self.assertIn("rt: mid NOT PROVED", said)
+        self.assertIn("crates/kmdfsim/out/proving.log", said)
 
-
-def main():
-    with tempfile.TemporaryDirectory() as top:
-        tree = Tree(top)
-        proves_what_is_needed(tree)
-        finds_changes(tree)
-        takes_what_the_gate_left(tree)
-        says_what_failed(tree)
+    def test_a_stopped_call_leaves_nothing(self):
+        self.tree.put("crates/mid/src/slow.rt", "")
+        run = self.tree.begin("./kmdfsim")
+        for _ in range(6000):
+            if self.tree.called() and os.path.exists(os.path.join(self.out, "proving.log")):
+                break
+            time.sleep(0.05)
+        os.killpg(run.pid, signal.SIGINT)
+        out, said = run.communicate(timeout=600)
+        self.assertEqual((run.returncode, out), (130, ""), said)
+        self.assertIn("stopped", said)
+        self.assertIn("proving.log", said)
+        self.assertEqual([name for name in os.listdir(self.tree.top) if name.startswith("kmdfsim-proving")], [])
+        os.remove(os.path.join(self.tree.top, "crates/mid/src/slow.rt"))
+        self.assert_proves("one\n")
 
 
 if __name__ == "__main__":
-    main()
+    unittest.main()

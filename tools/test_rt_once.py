@@ -1,5 +1,4 @@
-#!/usr/bin/env python3
-"""A test of tools/rt_once.py with two made kits, which prove nothing.
+"""Tests of tools/rt_once.py with two made kits, which prove nothing.
 
 Each kit asks for the checksum of a crate that stands on another in two ways. Of the one that has no `stamp_once` the script has
 the checksum of the lower crate made once, where the kit makes it twice. The one that has is run as it is. Both get the words of the
@@ -10,6 +9,7 @@ import os
 import subprocess
 import sys
 import tempfile
+import unittest
 
 ROOT = os.path.dirname(os.path.dirname(os.path.abspath(__file__)))
 ONCE = os.path.join(ROOT, "tools", "rt_once.py")
@@ -71,31 +71,33 @@ def called(command, path):
     return ran.returncode, ran.stdout.strip(), ran.stderr.strip()
 
 
-def check(what, holds, *seen):
-    if not holds:
-        sys.exit(f"not so: {what}: {seen}")
+class Kits(unittest.TestCase):
+    def setUp(self):
+        room = tempfile.TemporaryDirectory()
+        self.addCleanup(room.cleanup)
+        self.room = room.name
 
+    def assert_made(self, rt, times):
+        """With this kit, which by itself makes the lowest checksum twice, it is made so often."""
+        put(f"{self.room}/kit/rtlib.py", RTLIB)
+        put(f"{self.room}/kit/rt", rt)
+        os.makedirs(f"{self.room}/bin")
+        os.symlink("../kit/rt", f"{self.room}/bin/rt")
+        path = f"{self.room}/bin:{os.environ['PATH']}"
+        self.assertEqual(called(["rt", "ci", "top"], path), (7, "ci top top(left(low()) right(low())) 2", ""))
+        self.assertEqual(called([sys.executable, ONCE, "ci", "top"], path), (7, f"ci top top(left(low()) right(low())) {times}", ""))
 
-def tries(top, name, rt, times):
-    """Tries the script with a made kit, which makes the lowest checksum twice by itself."""
-    put(f"{top}/{name}/kit/rtlib.py", RTLIB)
-    put(f"{top}/{name}/kit/rt", rt)
-    os.makedirs(f"{top}/{name}/bin")
-    os.symlink("../kit/rt", f"{top}/{name}/bin/rt")
-    path = f"{top}/{name}/bin:{os.environ['PATH']}"
-    plain = called(["rt", "ci", "top"], path)
-    check(f"the {name} kit makes it twice", plain == (7, "ci top top(left(low()) right(low())) 2", ""), plain)
-    seen = called([sys.executable, ONCE, "ci", "top"], path)
-    check(f"with the {name} kit it is made so often: {times}", seen == (7, f"ci top top(left(low()) right(low())) {times}", ""), seen)
+    def test_an_older_kit(self):
+        self.assert_made(RT, 1)
 
+    def test_a_newer_kit(self):
+        self.assert_made(RT.replace("\nloader =", NEWER + "\n\nloader =", 1), 2)
 
-def main():
-    with tempfile.TemporaryDirectory() as top:
-        tries(top, "older", RT, 1)
-        tries(top, "newer", RT.replace("\nloader =", NEWER + "\n\nloader =", 1), 2)
-        status, out, said = called([sys.executable, ONCE, "ci"], f"{top}/none")
-        check("without a kit it says so", status == 1 and out == "" and "`rt` isn't on the PATH" in said, status, out, said)
+    def test_no_kit(self):
+        status, out, said = called([sys.executable, ONCE, "ci"], self.room)
+        self.assertEqual((status, out), (1, ""))
+        self.assertIn("`rt` isn't on the PATH", said)
 
 
 if __name__ == "__main__":
-    main()
+    unittest.main()
