@@ -195,7 +195,7 @@ class OfRules(Tree):
     ]
 
     def cards(self, rule):
-        return Cards(Repository(self.tree(FILES)), f"Queues\n{rule}\n")
+        return Cards(Found(Names(Repository(self.tree(FILES)))), f"Queues\n{rule}\n")
 
     def test_what_is_shown(self):
         for rule, texts, code, edited, laws, wrong in self.SHOWN:
@@ -239,7 +239,7 @@ pub fn serve<R: Reads>(flow: &Flow<R>) -> u8
 PROMISES = """-- What is promised. And more of it.
 use Rattle.std.specs.Prelude.{ℕ, List}
 use Rattle.wdf_base.specs.Words as words
-use Rattle.wdf_base.specs.declared.plan.Plan.{Plan}
+use Rattle.wdf_base.specs.Prelude.{Plan}
 use Rattle.wdf_base.specs.declared.plan.Plan.TheVariants as plan
 
 -- all of it
@@ -267,6 +267,7 @@ PROGRAM = {
     "crates/wdf_serve/specs/Promises.antt": PROMISES,
     "crates/wdf_base/specs/Words.antt": "-- Words.\nuse Rattle.kit_words.specs.Words.{is_letter}\nabbrev pub is_word : ℕ → Type 0\nis_word n = is_letter n\nabbrev pub is_long : ℕ → Type 0\nis_long n = n\n",
     "crates/wdf_base/specs/Lists.antt": "-- Lists.\nabbrev pub Listed : Type 0 → Type 0\nListed T = T\n",
+    "crates/wdf_base/specs/Prelude.antt": "-- Handed on.\nunfoldable pub use Rattle.wdf_base.specs.declared.plan.Plan.{Plan}\n",
     "crates/wdf_base/src/lib.rt": "//! Types.\n",
     "crates/wdf_base/src/plan.rt": "use crate::items::{Items, MANY};\n\n/// A plan.\npub struct Plan {\n    pub names: Items<u8, MANY>,\n}\n\npub enum Other {\n    None,\n}\n",
     "crates/wdf_base/src/items.rt": "use std::marker::Model;\n\npub const MANY: u64 = 4;\n\npub struct Items<T> {\n    items: Vec<T>,\n}\n\nimpl<T> Model for Items<T> {\n"
@@ -290,8 +291,8 @@ class OfClaims(Tree):
 
     def claims(self, files):
         root = self.tree(files)
-        repository = Repository(root)
-        return claims.claims_in(root / "docs/proof/CLAIMS.md", Found(repository), Names(repository))
+        names = Names(Repository(root))
+        return claims.claims_in(root / "docs/proof/CLAIMS.md", Found(names), names)
 
     def test_what_a_claim_rests_on(self):
         whole, headline = self.claims(PROGRAM)

@@ -15,7 +15,7 @@ NAME = r"[A-Za-z_][A-Za-z0-9_'\-]*"
 RECORD = re.compile(rf"^(?:pub )?(?:record|data) ({NAME})")
 DEFINITION = re.compile(rf"^(?:(?:abbrev|unfoldable)(?: pub)?|pub)? ?({NAME}) :")
 MEMBER = re.compile(rf"^  (?:pub )?({NAME}) :")
-USE = re.compile(r"^\s*(?:ghost )?(?:pub )?use Rattle\.(\w+)\.(?:specs\.)?([A-Za-z0-9_.']*?)(?:\.\{([^}]*)\}| as (\w+))?;?\s*$")
+USE = re.compile(r"^\s*(?:ghost )?(?:unfoldable )?(?:pub )?use Rattle\.(\w+)\.(?:specs\.)?([A-Za-z0-9_.']*?)(?:\.\{([^}]*)\}| as (\w+))?;?\s*$")
 WORD = re.compile(rf"(?:({NAME})\.)?({NAME})")
 TYPE = re.compile(r"^(?:pub(?:\([a-z]+\))? )?(?:struct|enum|type|const) ([A-Za-z_][A-Za-z0-9_]*)", re.M)
 RUST_USE = re.compile(r"^(?:pub(?:\([a-z]+\))? )?use ((?:crate|super|self|\w+)(?:::\w+)*)::(?:\{([^}]*)\}|(\w+)(?: as \w+)?);", re.M)
@@ -40,7 +40,7 @@ def imports_of(text: str) -> Imports:
     for line in text.split("\n"):
         found = USE.match(line)
         if not found:
-            if re.match(r"\s*(?:ghost )?(?:pub )?use Rattle\.", line):
+            if re.match(r"\s*(?:ghost )?(?:unfoldable )?(?:pub )?use Rattle\.", line):
                 raise Lost(f"an import that can't be read: {line.strip()}")
             continue
         crate, path, inside, module = found.groups()
@@ -63,7 +63,7 @@ class Definitions:
         last = None
         for line in text.split("\n"):
             told = line.strip()
-            if not told or told.startswith(("--", "use ", "pub use ", "mod ", "pub mod ")):
+            if not told or told.startswith(("--", "use ", "pub use ", "unfoldable pub use ", "mod ", "pub mod ")):
                 continue
             found = RECORD.match(line) or DEFINITION.match(line)
             if found:
@@ -159,13 +159,21 @@ class Names:
         for count in range(len(words), 0, -1):
             place = f"specs/{'/'.join(words[:count])}.antt"
             if (crate, place) in self.there:
-                if count == len(words):
-                    return None
-                owner = self.file(crate, place).owners.get(words[count])
-                if owner is None:
-                    raise Lost(f"crates/{crate}/{place} has no {words[count]}")
-                return At(crate, place, owner)
+                return self.at_in(crate, place, words[count:])
         raise Lost(f"there is no Rattle.{crate}.specs.{'.'.join(words)}")
+
+    def at_in(self, crate: str, place: str, words: List[str]) -> Optional[At]:
+        """What the words after a file of definitions name: one of its own, or one that it hands on."""
+        if not words:
+            return None
+        file = self.file(crate, place)
+        if words[0] in file.owners:
+            return At(crate, place, file.owners[words[0]])
+        if words[0] in file.names:
+            return self.at(*file.names[words[0]])
+        if words[0] in file.modules and len(words) > 1:
+            return self.at(*file.modules[words[0]], words[1])
+        raise Lost(f"crates/{crate}/{place} has no {words[0]}")
 
     def meaning(self, module: str, word: str, imports: Imports) -> Optional[At]:
         """What `module.word`, or a word alone, is of what is imported."""
@@ -177,6 +185,13 @@ class Names:
         if not module and word in names:
             return self.at(*names[word])
         return None
+
+    def perhaps(self, module: str, word: str, imports: Imports) -> Optional[At]:
+        """The same, or None where a parameter or a field has the name of a module."""
+        try:
+            return self.meaning(module, word, imports)
+        except Lost:
+            return None
 
     def named_in(self, text: str, imports: Imports) -> Iterator[At]:
         """What a text names of what is imported."""

@@ -8,8 +8,8 @@ from typing import Dict, List, Optional, Sequence, Tuple
 from book import claims
 from book.markup import STYLE, Links, escaped, inline, link, page, prose, source
 from book.names import At, Definitions, Names
-from book.repository import Lost, Repository
-from book.rules import Card, Cards, Edit, Law
+from book.repository import Repository
+from book.rules import Card, Cards, Edit, Found, Law
 from book.sources import Item, definitions_in, functions_in, head_of, text_of, types_in
 
 LONG = 30
@@ -42,8 +42,8 @@ class Book:
     def __init__(self, root: Path) -> None:
         self.root = root
         self.repository = Repository(root)
-        self.cards = Cards(self.repository, text_of(root / "tools" / "rules.txt"))
         self.names = Names(self.repository)
+        self.cards = Cards(Found(self.names), text_of(root / "tools" / "rules.txt"))
         self.claims = claims.claims_in(root / "docs" / "proof" / "CLAIMS.md", self.cards.found, self.names)
         self.anchors: Dict[Tuple[Path, int], str] = {}
         self.lines: Dict[Path, List[int]] = {}
@@ -95,10 +95,7 @@ class Book:
         def leads(module: str, word: str) -> Optional[str]:
             if isinstance(file, Definitions) and not module and word in file.owners:
                 return self.target_at(At(crate, place, file.owners[word]))
-            try:
-                found = self.names.meaning(module, word, (file.names, file.modules))
-            except Lost:
-                found = None
+            found = self.names.perhaps(module, word, (file.names, file.modules))
             if found is None and not isinstance(file, Definitions) and not module:
                 found = next(iter(self.names.types_in(crate, place, word)), None)
             return self.target_at(found) if found else None

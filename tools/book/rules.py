@@ -11,24 +11,23 @@ name are. A function is CRATE::NAME, or FILE::NAME where several files have it.
 
 Found for a rule are the functions whose contracts cite a definition of it (code). Where no laws or wrong bodies are given, the laws
 over it are found, and the wrong bodies inside the code; and always what else a shown wrong body changes. A contract cites a
-definition where its file imports that name from the definition's crate, or says it after the name of a module of that crate. It
-cites a deed where it says it after `Deed`.
+definition where its file imports that name, also through a file that hands it on, or says it after the name of its module. It cites a
+deed where it says it after `Deed`.
 """
 
 import re
 from pathlib import Path
-from typing import Callable, Dict, Iterator, List, NamedTuple, Optional, Sequence, Tuple
+from typing import Callable, Dict, List, NamedTuple, Optional, Sequence, Tuple
 
-from book.names import WORD
+from book.names import WORD, At, Names
 from book.repository import Repository
-from book.sources import DEFINITION, FUNCTION, MEMBER, RUST, TYPE, VARIANT, Item, functions_in, item_at, item_named, row_of, text_of
+from book.sources import DEFINITION, MEMBER, RUST, TYPE, VARIANT, Item, functions_in, item_at, item_named, row_of, text_of
 from wrong_bodies import pairs_of
 
 MODEL = "wdf_model"
 LAWS = ("law_", "inv_")
 TESTS = ("test_", "check_")
 DEEDS = "Deed"
-USE = re.compile(r"^ *ghost use Rattle\.(\w+)\.specs([A-Za-z0-9_.']*?)(?:\.\{([^}]*)\}| as (\w+));", re.M)
 
 
 class Rule(NamedTuple):
@@ -88,37 +87,20 @@ def rule_in(line: str, number: int) -> Optional[Rule]:
     return Rule(number, words, [(one.group(1), one.group(2)) for one in found], laws, edits, code)
 
 
-def imports_of(text: str) -> Tuple[Dict[str, Tuple[str, str]], Dict[str, Tuple[str, str]]]:
-    """What a file's contracts import: the crate and the module of each name, and those of each module by its name there."""
-    names, modules = {}, {}
-    for crate, inside, told, module in USE.findall(text):
-        if module:
-            modules[module] = crate, inside
-        for name in told.split(","):
-            names[name.split(" as ")[0].strip()] = crate, inside
-    return names, modules
-
-
 def contract_of(item: Item) -> str:
     """A function's text from its first clause on."""
     found = re.search(r"^\s*(requires|ensures)\b.*", item.text, re.M | re.S)
     return found.group(0) if found else ""
 
 
-class Cited(NamedTuple):
-    """A function whose contract cites a definition, and the module of that definition."""
-
-    item: Item
-    module: str
-
-
 class Found:
     """What the crates have: functions by the definitions that their contracts cite, and wrong bodies by what they change."""
 
-    def __init__(self, repository: Repository) -> None:
-        self.repository = repository
-        self.code: Dict[Tuple[str, str], List[Cited]] = {}
-        self.laws: Dict[Tuple[str, str], List[Cited]] = {}
+    def __init__(self, names: Names) -> None:
+        self.names = names
+        self.repository = repository = names.repository
+        self.code: Dict[At, List[Item]] = {}
+        self.laws: Dict[At, List[Item]] = {}
         self.functions: Dict[str, List[Item]] = {}
         self.edits: Dict[str, List[Edit]] = {}
         self.changing: Dict[Tuple[Path, str], List[Edit]] = {}
@@ -136,15 +118,24 @@ class Found:
             for item in edit.items:
                 self.changing.setdefault((item.path, item.name), []).append(edit)
         for path in self.repository.code(crate):
-            names, modules = imports_of(text_of(path))
             is_test = "tests" in path.parts or crate.startswith(TESTS)
             for item in functions_in(path):
                 self.functions.setdefault(item.name.split("::")[-1], []).append(item)
                 if is_test or not (item.has_body or crate.startswith(LAWS)):
                     continue
                 table = self.laws if crate.startswith(LAWS) else self.code
-                for at, module, definition in dict.fromkeys(cited(contract_of(item), names, modules)):
-                    table.setdefault((at, definition), []).append(Cited(item, module))
+                for at in self.cited(item):
+                    table.setdefault(at, []).append(item)
+
+    def cited(self, item: Item) -> List[At]:
+        """What the contract of a function cites: definitions, types, and deeds, which have no place."""
+        file = self.names.file(*self.repository.place(item.path))
+        found: Dict[At, None] = {}
+        for module, word in dict.fromkeys(WORD.findall(contract_of(item))):
+            at = At(MODEL, "", word) if module == DEEDS else self.names.perhaps(module, word, (file.names, file.modules))
+            if at:
+                found[at] = None
+        return list(found)
 
     def edit_of(self, crate: str, path: Path) -> Edit:
         changes, items = list(pairs_of(path)), []
@@ -207,29 +198,12 @@ class Found:
         return [path for path in self.names_of(crate).get(name, []) if path.suffix == ".antt" and any(form.search(text_of(path)) for form in (DEFINITION, TYPE))]
 
 
-def cited(contract: str, names: Dict[str, Tuple[str, str]], modules: Dict[str, Tuple[str, str]]) -> Iterator[Tuple[str, str, str]]:
-    """The definitions that a contract cites, each with its crate and its module."""
-    for module, name in WORD.findall(contract):
-        if module in modules:
-            yield (*modules[module], name)
-        elif not module and name in names:
-            yield (*names[name], name)
-        elif module == DEEDS:
-            yield MODEL, "", name
-
-
-def module_of(repository: Repository, path: Path) -> Optional[str]:
-    """The module that a file of definitions is, after its crate's `specs`; None for a file of code."""
-    place = repository.place(path)[1].split("/")
-    return "".join(f".{part}" for part in [*place[1:-1], path.stem]) if place[0] == "specs" else None
-
-
 class Cards:
     """The cards of all rules. What rules.txt names and isn't there is in `wrong`, a line each."""
 
-    def __init__(self, repository: Repository, text: str) -> None:
-        self.found = Found(repository)
-        self.repository = repository
+    def __init__(self, found: Found, text: str) -> None:
+        self.found = found
+        self.repository = found.repository
         self.wrong: List[str] = []
         self.subjects: Dict[str, List[Card]] = {}
         subject = ""
@@ -273,17 +247,17 @@ class Cards:
                 self.say(rule.line, f"there is no {kind} {name}")
         return [one for _, one in found if one is not None]
 
-    def citing(self, item: Item, remark: Optional[str], table: Dict[Tuple[str, str], List[Cited]]) -> List[Item]:
-        """The functions that cite a definition; of one whose file is given, those that import it from there."""
-        crate = self.repository.place(item.path)[0]
-        module = module_of(self.repository, item.path) if remark and (self.repository.crates / remark).is_file() else None
-        return [one.item for one in table.get((crate, item.name.split(".")[-1]), []) if module in (None, one.module)]
+    def citing(self, item: Item, table: Dict[At, List[Item]]) -> List[Item]:
+        """The functions that cite a definition, a type of code or a deed."""
+        crate, place = self.repository.place(item.path)
+        name = item.name.split(".")[-1]
+        return table.get(At(crate, place, name), []) or (table.get(At(crate, "", name), []) if place.endswith(".rt") else [])
 
     def card_of(self, rule: Rule) -> Card:
         shown = [(self.definition(rule, name, remark), remark) for name, remark in rule.definitions]
         definitions = [(item, remark) for item, remark in shown if item]
         named = {name.split("::")[-1] for name in rule.laws or ()}
-        citing = [(item.name.split(".")[-1], [one for one in self.citing(item, remark, self.found.code) if one.name not in named]) for item, remark in definitions]
+        citing = [(item.name.split(".")[-1], [one for one in self.citing(item, self.found.code) if one.name not in named]) for item, _ in definitions]
         code, others = first_few(code_of(citing))
         if rule.code is not None:
             code, others = self.those(rule, rule.code, self.found.function, "function"), []
@@ -297,7 +271,7 @@ class Cards:
     def laws_of(self, rule: Rule, definitions: Sequence[Tuple[Item, Optional[str]]]) -> Tuple[List[Law], List[Item]]:
         if rule.laws is not None:
             return self.those(rule, rule.laws, self.found.law, "law"), []
-        found = sorted({law for item, remark in definitions for law in self.citing(item, remark, self.found.laws)}, key=lambda law: (law.name, law.path))
+        found = sorted({law for item, _ in definitions for law in self.citing(item, self.found.laws)}, key=lambda law: (law.name, law.path))
         few, others = first_few(found)
         return [Law(item, "worked" in self.found.crate_of(item)) for item in few], others
 
@@ -340,6 +314,6 @@ def code_of(citing: Sequence[Tuple[str, List[Item]]], few: int = 3) -> List[Item
         rest += functions
 
     def order(items: Sequence[Item]) -> List[Item]:
-        return sorted(set(items), key=lambda item: (item.path, item.line))
+        return sorted(set(items), key=lambda item: (not item.is_public, item.path, item.line))
 
     return order(named) + [item for item in order(others) if item not in named] or order(rest)

@@ -121,7 +121,7 @@ def functions_in(path: Path) -> List[Item]:
         text = "\n".join(row[len(indent) :] for row in lines[start : last + 1])
         text = re.sub(r"\s*\{\}?$", "", text) if lines[last].rstrip().endswith(("{", "{}")) else text
         comment = comment_of(lines[begin(lines, start) - 1 : start])
-        items.append(Item((owner if indent else "") + name, comment, text, path, start + 1, bool(visible), has_body))
+        items.append(Item((owner if indent else "") + name, comment, text, path, start + 1, visible.strip() == "pub", has_body))
     return items
 
 
