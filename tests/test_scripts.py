@@ -8,9 +8,7 @@ import unittest
 from rows import launched, row, script
 
 CHECKS = (
-    "rules.py --check",
-    "trust.py --check",
-    "architecture.py --check",
+    "book --check",
     "editors.py --check",
     "runs_to_tests.py --check",
     "scene_to_plan.py --check",

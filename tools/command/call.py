@@ -64,6 +64,15 @@ def named(text: str, known: Tuple[Option, ...]) -> Option:
     raise WrongCall(f"no option `{text}`{like(text, [option.name for option in known])}")
 
 
+def take_value(option: Option, left: List[str]) -> str:
+    """The value of an option at the front of what is left, which is taken away; empty where it may be and is left out."""
+    if option.choices and (not left or left[0] not in option.choices):
+        return ""
+    if not left:
+        raise WrongCall(f"`{option.name}` takes a value, {option.value}")
+    return left.pop(0)
+
+
 def split_options(words: List[str], known: Tuple[Option, ...]) -> Tuple[List[str], Dict[str, str]]:
     """The words that are no options, and the options with their values. After `--` no word is an option."""
     rest: List[str] = []
@@ -82,10 +91,10 @@ def split_options(words: List[str], known: Tuple[Option, ...]) -> Tuple[List[str
         option = named(name, known)
         if equals and not option.value:
             raise WrongCall(f"`{option.name}` takes no value")
-        if option.value and not equals and not option.is_value_optional:
-            if not left:
-                raise WrongCall(f"`{option.name}` takes a value, {option.value}")
-            value = left.pop(0)
+        if option.value and not equals:
+            value = take_value(option, left)
+        if option.choices and value and value not in option.choices:
+            raise WrongCall(f"`{option.name}` takes {', '.join(option.choices[:-1])} or {option.choices[-1]}, and not `{value}`")
         options[option.name] = value
     return rest, options
 

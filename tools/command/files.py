@@ -4,13 +4,15 @@ from __future__ import annotations
 import os
 import subprocess
 import sys
-from typing import Callable, List, Sequence
+from typing import Callable, List, Optional, Sequence
 
 from . import colours, refusals, running
 from .call import Call
 from .words import Reads, Writes
 
 READ_FAULT, WRITE_FAULT = 12, 13
+# The most bytes that any program reads: those of a scenario and its trace.
+MOST = 134_217_728
 WAITS = {
     Reads.SCENARIO: "waits for a scenario from the terminal",
     Reads.RUN: "waits for a scenario, a line `trace` and a trace from the terminal",
@@ -79,12 +81,15 @@ def each(call: Call, one: Callable[[str], int], has_heads: bool = True) -> int:
     return found
 
 
+def read(path: Optional[str]) -> bytes:
+    """The content of a file, or of standard input; of one that is longer than any program takes only so much that this shows."""
+    with open(0 if path is None else path, "rb", closefd=path is not None) as file:
+        return file.read(MOST + 1)
+
+
 def joined(paths: Sequence[str]) -> bytes:
     """A scenario, a line `trace` and a trace, from a file with all of it or from one of each."""
-    texts = []
-    for path in paths:
-        with open(path, "rb") as file:
-            texts.append(file.read())
+    texts = [read(path) for path in paths]
     if len(texts) == 1:
         return texts[0]
     end = b"" if texts[0].endswith(b"\n") or not texts[0] else b"\n"

@@ -12,7 +12,7 @@ WIDTH, INDENT = 80, 2
 
 def written(option: Option) -> str:
     """An option as it is typed."""
-    value = f"[={option.value}]" if option.is_value_optional else f" {option.value}" if option.value else ""
+    value = f"[={option.value}]" if option.choices else f" {option.value}" if option.value else ""
     short = f"{option.short}, " if option.short else ""
     return f"{short}{option.name}{value}"
 

@@ -9,7 +9,7 @@ from typing import List, Optional
 
 from . import colours, files, refusals, reports, running, tables
 from .call import Call, WrongCall, is_number
-from .words import REFUSED
+from .words import QUIET, REFUSED
 
 LAST_SEED, MOST = 2**64 - 1, 2**32 - 1
 # The first piece, how many times as large the next one may be, the largest one, and how long a piece should take, in seconds.
@@ -65,7 +65,7 @@ class Hunt:
     def piece(self, size: int) -> bool:
         """Runs the next seeds, so many; whether that gave a table."""
         jitter = [] if self.limits.ticks is None else ["jitter", self.limits.ticks]
-        words = [self.program, "seeds", str(self.limits.first + self.seeds), str(size), *jitter]
+        words = [self.program, "seeds", str(self.limits.first + self.seeds), str(size), *jitter, QUIET.name]
         seconds = self.limits.seconds if self.seeds else None  # (the first piece is always done)
         left = None if seconds is None else max(seconds - self.spent(), 0.001)
         status, text = running.answer(words, self.text, self.limits.processors, apart=True, seconds=left)
@@ -177,15 +177,16 @@ def tell_stop(call: Call, found: Found, limits: Limits) -> None:
 
 def seeds(call: Call, program: str) -> int:
     """Runs the seeds of a call over each file, or over standard input."""
-    limits, found = limits_of(call), []
+    limits = limits_of(call)
+    found: List[reports.Case] = []
+    reports.check(call)
     is_quiet = "--no-progress" in call.options
     is_table_shown = not reports.are_on_output(call)
 
     def one(path: Optional[str]) -> int:
-        with open(0 if path is None else path, "rb", closefd=path is not None) as file:
-            text = file.read()
+        text = files.read(path)
         result = Hunt(program, text, limits, is_quiet).run()
-        found.append(reports.Case(path or "standard input", result.text, result.status, result.table))
+        found.append(reports.Case(path, result.text, result.status, result.table))
         if is_table_shown:
             print(colours.painted(result.text, call.options), end="", flush=True)
         tell_stop(call, result, limits)

@@ -54,6 +54,8 @@ def tell_handed_on(typed: str, words: List[str], status: int) -> None:
         tell([running.program_of(name), *words], None, status, name)
         return
     try:
-        parsed(PROGRAMS[name], words)
+        missing = [path for path in parsed(PROGRAMS[name], words).files if not os.path.exists(path)]
+        if missing:
+            tell_wrong(typed, f"no file `{missing[0]}`")
     except WrongCall as wrong:
         tell_wrong(typed, wrong)

@@ -3,15 +3,17 @@ from __future__ import annotations
 
 import json
 import os
+import re
+import shlex
 import sys
 from dataclasses import dataclass
 from typing import Any, Dict, List, Optional, Sequence
 from urllib.parse import quote
 from xml.etree import ElementTree
 
-from . import running
+from . import files, running
 from .call import Call
-from .tables import FAULT, STUCK, Row, Table
+from .tables import FAULT, LIMIT, STUCK, Row, Table
 from .words import JSON, JUNIT, SARIF
 
 OPTIONS = (JSON, JUNIT, SARIF)
@@ -20,21 +22,27 @@ SARIF_SCHEMA = "https://json.schemastore.org/sarif-2.1.0.json"
 
 @dataclass(frozen=True)
 class Case:
-    """A scenario that was hunted in: its name, what was written of it, the status, and the table if it got one."""
+    """A scenario that was hunted in: its file (None: standard input), what was written of it, the status, and its table if it got one."""
 
-    path: str
+    path: Optional[str]
     text: str
     status: int
     table: Optional[Table]
 
+    @property
+    def name(self) -> str:
+        """The scenario's name in a report."""
+        return self.path or "standard input"
+
 
 def way_back(case: Case, row: Row, ticks: Optional[str]) -> str:
     """The line for a shell that brings a kind of ending back."""
+    path = shlex.quote(case.path or "FILE")
     if ticks is not None:
-        return f"./kmdfhunt shrink {row.seed} jitter {ticks} {case.path}"
+        return f"./kmdfhunt shrink {row.seed} jitter {ticks} {path}"
     if row.status in (FAULT, STUCK):
-        return f"./kmdfhunt explain {row.seed} {case.path}"
-    return f"./kmdfsim seed {row.seed} {case.path}"
+        return f"./kmdfhunt explain {row.seed} {path}"
+    return f"./kmdfsim seed {row.seed} {path}"
 
 
 def row_values(case: Case, row: Row, ticks: Optional[str]) -> Dict[str, Any]:
@@ -49,7 +57,7 @@ def json_text(cases: Sequence[Case], ticks: Optional[str]) -> str:
     """All of it as JSON."""
     found: List[Dict[str, Any]] = []
     for case in cases:
-        values: Dict[str, Any] = {"file": case.path, "status": case.status}
+        values: Dict[str, Any] = {"file": case.name, "status": case.status}
         if case.table:
             of = case.table
             values.update(first=of.first, last=of.last, runs=of.count, events=of.events, kinds=[row_values(case, row, ticks) for row in of.rows])
@@ -67,7 +75,7 @@ def junit_text(cases: Sequence[Case], ticks: Optional[str]) -> str:
     top = ElementTree.Element("testsuites", {"name": "kmdfhunt", **counts})
     suite = ElementTree.SubElement(top, "testsuite", {"name": "kmdfhunt", "skipped": "0", **counts})
     for case in cases:
-        one = ElementTree.SubElement(suite, "testcase", classname="kmdfhunt", name=case.path)
+        one = ElementTree.SubElement(suite, "testcase", classname="kmdfhunt", name=case.name)
         worst = case.table.worst if case.table else None
         if case.table is None:
             ElementTree.SubElement(one, "error", message=case.text.strip(), type="refused")
@@ -78,31 +86,33 @@ def junit_text(cases: Sequence[Case], ticks: Optional[str]) -> str:
     return '<?xml version="1.0" encoding="UTF-8"?>\n' + ElementTree.tostring(top, encoding="unicode") + "\n"
 
 
-def place(path: str, line: Optional[int]) -> Dict[str, Any]:
-    """A place in a file, for SARIF."""
+def places(path: Optional[str], line: Optional[int]) -> List[Dict[str, Any]]:
+    """A place in a file, for SARIF; none in standard input."""
+    if path is None:
+        return []
     physical: Dict[str, Any] = {"artifactLocation": {"uri": quote(os.fsencode(path))}}
     if line is not None:
         physical["region"] = {"startLine": line}
-    return {"physicalLocation": physical}
+    return [{"physicalLocation": physical}]
 
 
-def result(case: Case, row: Row, ticks: Optional[str]) -> Dict[str, Any]:
+def result(case: Case, table: Table, row: Row, ticks: Optional[str]) -> Dict[str, Any]:
     """A kind of ending that isn't as it should be, for SARIF."""
-    message = f"{row.kind}: {row.count} of {case.table.count if case.table else 0} seeds end so, the shortest run is that of seed {row.seed}. {way_back(case, row, ticks)}"
+    text = f"{row.kind}: {row.count} of {table.count} seeds end so, the shortest run is that of seed {row.seed}. {way_back(case, row, ticks)}"
     return {
         "ruleId": row.name,
-        "level": "warning" if row.name == "limit" else "error",
-        "message": {"text": message},
-        "locations": [place(case.path, row.line)],
-        "partialFingerprints": {"kind/v1": f"{case.path}: {row.kind}"},
+        "level": "warning" if row.status == LIMIT else "error",
+        "message": {"text": text},
+        "locations": places(case.path, row.line),
+        "partialFingerprints": {"kind/v1": f"{case.name}: {row.kind}"},
     }
 
 
 def refused_result(case: Case) -> Dict[str, Any]:
     """A scenario that was refused, for SARIF."""
     text = case.text.strip()
-    line = text.partition(" at line ")[2].split(":")[0].split(" ")[0]
-    return {"ruleId": "refused", "level": "error", "message": {"text": text}, "locations": [place(case.path, int(line) if line.isdigit() else None)]}
+    line = re.search(r" at line (\d+)", text)
+    return {"ruleId": "refused", "level": "error", "message": {"text": text}, "locations": places(case.path, int(line[1]) if line else None)}
 
 
 def sarif_text(cases: Sequence[Case], ticks: Optional[str]) -> str:
@@ -110,7 +120,7 @@ def sarif_text(cases: Sequence[Case], ticks: Optional[str]) -> str:
     results: List[Dict[str, Any]] = []
     for case in cases:
         if case.table:
-            results += [result(case, row, ticks) for row in case.table.rows if row.status]
+            results += [result(case, case.table, row, ticks) for row in case.table.rows if row.status]
         else:
             results.append(refused_result(case))
     rules = [{"id": name, "shortDescription": {"text": name}} for name in dict.fromkeys(one["ruleId"] for one in results)]
@@ -127,6 +137,19 @@ WRITERS = {JSON.name: json_text, JUNIT.name: junit_text, SARIF.name: sarif_text}
 def are_on_output(call: Call) -> bool:
     """Whether a report is on standard output, in place of what is written there else."""
     return any(call.options.get(option.name) == "-" for option in OPTIONS)
+
+
+def check(call: Call) -> None:
+    """Sees that each report can be written, before a hunt that may take long. Ends where one can't."""
+    for option in OPTIONS:
+        path = call.options.get(option.name, "-")
+        try:
+            if path != "-":
+                with open(path, "a", encoding="utf-8"):
+                    pass
+        except OSError as error:
+            print(f"{call.program.name}: {path}: {error.strerror}", file=sys.stderr)
+            raise SystemExit(files.WRITE_FAULT) from None
 
 
 def write(call: Call, cases: Sequence[Case]) -> None:

@@ -27,25 +27,20 @@ class Run:
         return self.scenario + end + b"trace\n" + self.trace
 
 
-def read(path: str) -> bytes:
-    """The content of a file."""
-    with open(path, "rb") as file:
-        return file.read()
-
-
 def split(text: bytes) -> Optional[Tuple[bytes, bytes]]:
     """The scenario and the trace of a text that has both: the first line whose only word is `trace` is between them."""
     at = 0
-    for line in text.splitlines(keepends=True):
+    for line in text.split(b"\n"):
+        after = at + len(line) + 1
         if line.partition(b"#")[0].split() == [b"trace"]:
-            return text[:at], text[at + len(line) :]
-        at += len(line)
+            return text[:at], text[after:]
+        at = after
     return None
 
 
 def made(path: str, way: Tuple[str, ...]) -> "Tuple[int, Run]":
     """The run of a scenario, and its status; where it is refused the trace is that line."""
-    scenario = read(path)
+    scenario = files.read(path)
     status, trace = running.answer([running.program_of("kmdfsim"), *way], scenario)
     return status, Run(path, scenario, trace)
 
@@ -56,8 +51,8 @@ def run_of(call: Call) -> "Tuple[int, Run]":
     if call.way:
         return made(path, call.way)
     if len(call.files) == 2:
-        return 0, Run(path, read(path), read(call.files[1]))
-    both = split(read(path))
+        return 0, Run(path, files.read(path), files.read(call.files[1]))
+    both = split(files.read(path))
     return (0, Run(path, *both)) if both else made(path, ("order",))
 
 

@@ -18,7 +18,7 @@ def scenarios_in(folder: str) -> List[str]:
 
 def line_of(number: int, case: reports.Case) -> str:
     """The line of TAP for a scenario."""
-    name = os.path.basename(case.path)
+    name = os.path.basename(case.name)
     if case.status == 0:
         return f"ok {number} - {name}"
     return f"not ok {number} - {name} # {case.table.worst if case.table else case.text.strip()}"
@@ -26,9 +26,7 @@ def line_of(number: int, case: reports.Case) -> str:
 
 def tried(call: Call, program: str, path: str) -> reports.Case:
     """What the hunt in a scenario came to."""
-    with open(path, "rb") as file:
-        text = file.read()
-    status, table = running.answer([program, "seeds", *call.numbers], text, hunt.number_option(call, JOBS.name))
+    status, table = running.answer([program, "seeds", *call.numbers], path, hunt.number_option(call, JOBS.name))
     written = table.decode("ascii", errors="replace")
     return reports.Case(path, written, status, None if status in REFUSED else tables.read(written))
 
@@ -40,6 +38,7 @@ def do(call: Call, program: str) -> int:
         if most:
             os.sched_setaffinity(0, running.processors(most) or [])
         return files.do(call, program)
+    reports.check(call)
     paths, cases = scenarios_in(call.files[0]), []
     lines = [f"1..{len(paths)}"]
     for number, path in enumerate(paths, 1):

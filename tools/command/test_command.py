@@ -140,6 +140,8 @@ class Wrong(Built):
         (f"kmdfhunt seeds -j 0 {FIRST}", "`--jobs` takes a number above 0"),
         (f"kmdfhunt explain 1 --time 5 {FIRST}", "`explain` has no option `--time`"),
         (f"kmdfview html idle {FIRST}", "and not of `idle`"),
+        (f"kmdfsim order --color=red {FIRST}", "`--color` takes always, never or auto, and not `red`"),
+        ("kmdfsim order 12345", "no file `12345`"),
         ("kmdfsim", "no word says what to do"),
     )
 
@@ -168,7 +170,7 @@ class Files(Built):
     """A word of a file, and of several."""
 
     def test_one(self) -> None:
-        for line in (f"kmdfsim order {FIRST}", f"kmdfsim --color=never order {FIRST}", f"kmdfsim order {FIRST} --color=never"):
+        for line in (f"kmdfsim order {FIRST}", f"kmdfsim --color=never order {FIRST}", f"kmdfsim order {FIRST} --color never"):
             done = called(line)
             self.assertEqual((done.returncode, done.stdout, done.stderr), (0, FIRST_TRACE, ""), line)
 
@@ -186,6 +188,10 @@ class Files(Built):
         self.assertEqual(done.returncode, 12)
         self.assertIn("no-such.kmdf: No such file or directory", done.stderr)
         self.assertIn(FIRST_TRACE, done.stdout)
+
+    def test_pipe_with_a_name(self) -> None:
+        words = ["bash", "-c", f"./kmdfsim order <(cat {FIRST})"]
+        self.assertEqual(subprocess.run(words, cwd=ROOT, stdin=subprocess.DEVNULL, capture_output=True, text=True, check=False).stdout, FIRST_TRACE)
 
     def test_replay_and_sum(self) -> None:
         with tempfile.TemporaryDirectory() as folder:
@@ -270,6 +276,24 @@ class Shown(Built):
         self.assertEqual(seen.status, 2)
         self.assertIn("end the line with `> run.html`", seen.screen)
 
+    def test_page(self) -> None:
+        trace = called("kmdfsim seed 10", text_of(BUG)).stdout
+        both = f"{text_of(BUG)}trace\n{trace}"
+        made = called(f"kmdfview html seed 10 {BUG}").stdout
+        before, data, after = made.partition('<script type="application/json" id="source">')
+        text, end, rest = after.partition("</script>\n")
+        self.assertEqual(before + rest, called("kmdfview html", both).stdout)
+        values = json.loads(text)
+        self.assertEqual((values["name"], values["script"]), ("echo-bug.kmdf", text_of(BUG)))
+        self.assertEqual(values["story"], called("kmdfhunt explain", both).stdout)
+        self.assertEqual((len(values["lines"]), values["lines"][-1]), (44, 17))
+        with tempfile.TemporaryDirectory() as folder:
+            for name, content in (("trace", trace), ("both", both)):
+                with open(f"{folder}/{name}", "w", encoding="ascii") as file:
+                    file.write(content)
+            self.assertEqual(called(f"kmdfview html {BUG} {folder}/trace").stdout, made)
+            self.assertEqual(called(f"kmdfview html {folder}/both").stdout, made.replace('"name":"echo-bug.kmdf"', '"name":"both"'))
+
     def test_perfetto(self) -> None:
         by_hand = called("kmdfview perfetto", f"{text_of(FIRST)}trace\n{FIRST_TRACE}").stdout
         self.assertEqual(called(f"kmdfview perfetto {FIRST}").stdout, by_hand)
@@ -326,6 +350,11 @@ class Hunts(Built):
         cases = list(top.iter("testcase"))
         self.assertEqual([case.get("name", "").rpartition("/")[2] for case in cases if case.find("failure") is not None], ["lost-update.kmdf", "wrong-status.kmdf"])
         self.assertEqual((top.tag, top.get("tests"), top.get("failures"), top.get("errors"), len(cases)), ("testsuites", "5", "2", "0", 5))
+
+    def test_report_that_cannot_be_written(self) -> None:
+        done = called(f"kmdfhunt seeds 0 4000000000 --json /no-such-folder/out.json {BUG}")
+        self.assertEqual((done.returncode, done.stdout), (13, ""))
+        self.assertIn("/no-such-folder/out.json: No such file or directory", done.stderr)
 
     def test_json(self) -> None:
         values = json.loads(called(f"kmdfhunt seeds 0 500 --json - {BUG} {BAD}").stdout)

@@ -44,7 +44,7 @@ class Option(NamedTuple):
     meaning: str
     value: str = ""
     short: str = ""
-    is_value_optional: bool = False
+    choices: Tuple[str, ...] = ()  # its values; it may then be left out
 
 
 class Example(NamedTuple):
@@ -89,7 +89,7 @@ class Program(NamedTuple):
 
 HELP = Option("--help", "shows a page of help, of the program or of the word that is named", short="-h")
 VERSION = Option("--version", "says which version this is, and whether the program is proved")
-COLOR = Option("--color", "colours `always`, `never`, or `auto`: on a terminal, unless NO_COLOR is set", value="WHEN", is_value_optional=True)
+COLOR = Option("--color", "colours `always`, `never`, or `auto`: on a terminal, unless NO_COLOR is set", value="WHEN", choices=("always", "never", "auto"))
 COMMON = (HELP, VERSION, COLOR)
 
 JOBS = Option("--jobs", "uses at most N processors", value="N", short="-j")

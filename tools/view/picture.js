@@ -78,7 +78,7 @@ const zoom = (factor, clientX) => {
   const box = run.getBoundingClientRect(), offset = names.getBoundingClientRect().width;
   const mid = clientX === undefined ? run.clientWidth / 2 : clientX - box.left;
   const slot = (run.scrollLeft + mid - offset) / width;
-  width = Math.min(Math.max(width * factor, 200), slots * 90, 16000000);
+  width = Math.min(Math.max(width * factor, 200), slots * 300, 16000000);
   plot.setAttribute('width', width + 20);
   run.scrollLeft = slot * width - mid + offset;
   draw();
