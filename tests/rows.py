@@ -57,7 +57,7 @@ def answer(words, given):
     the name of another program are for kmdfsim."""
     name, _, rest = words.partition(" ")
     name, rest = (name, rest) if name in NAMES else ("kmdfsim", words)
-    done = subprocess.run([launched(name), *rest.split()], input=given, capture_output=True, timeout=60, check=False)
+    done = subprocess.run([launched(name), *rest.split()], input=given, capture_output=True, timeout=600, check=False)
     return done.returncode, done.stdout, done.stderr
 
 

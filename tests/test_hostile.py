@@ -1,5 +1,5 @@
 """Texts that were made to break the program, of those that `tools/hostile.py` has: each at a limit, some random ones, and each
-fiftieth front or change of an example. And texts as Windows writes them."""
+fiftieth front or change of an example. How long an answer takes isn't looked at here. And texts as Windows writes them."""
 
 import itertools
 import unittest
@@ -25,7 +25,8 @@ def faults(part):
     found = []
     for name, text in itertools.islice(texts(), part, None, PARTS):
         for word in ("check", "order"):
-            fault = hostile.fault_of(word, *hostile.answer(launched("kmdfsim"), word, text))
+            status, out, error, _, kilobytes = hostile.answer(launched("kmdfsim"), word, text)
+            fault = hostile.fault_of(word, status, out, error, 0, kilobytes)
             if fault:
                 found.append(f"{word} of {name}: {fault}")
     return "\n".join(found)
