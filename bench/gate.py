@@ -61,7 +61,7 @@ def body_in(crate, room):
     """The name of the wrong body that the copy in this room has."""
     folder = f"crates/{crate}/must-fail"
     tried = (name for name in sorted(os.listdir(folder)) if is_tried(crate, room, text_of(f"{folder}/{name}")))
-    return next(tried, "as it is").removesuffix(".edit")
+    return os.path.splitext(next(tried, "as it is"))[0]
 
 
 def look(seen, session):

@@ -29,7 +29,7 @@ def run(words, text, program=PROGRAM):
         written.seek(0)
         answer = written.read()
     figures = seconds, usage.ru_utime + usage.ru_stime, usage.ru_maxrss / 1024
-    return answer, os.waitstatus_to_exitcode(status), figures
+    return answer, -os.WTERMSIG(status) if os.WIFSIGNALED(status) else os.WEXITSTATUS(status), figures
 
 
 def written_alone(text):

@@ -30,7 +30,7 @@ def modules_below(folder):
     for at, _, names in os.walk(folder):
         for name in names:
             if name.endswith(".oantt"):
-                found.append((os.stat(f"{at}/{name}").st_mtime, name.removesuffix(".oantt")))
+                found.append((os.stat(f"{at}/{name}").st_mtime, os.path.splitext(name)[0]))
     return sorted(found)
 
 

@@ -77,8 +77,7 @@ def check_console(folder, text):
 def workplace(folder):
     """Makes a folder one in which the lines of a document can be run."""
     for name in ("kmdfsim", "kmdfhunt", "kmdfview", "examples", "scenarios"):
-        programs = os.environ.get("KMDFSIM_PROGRAMS", ROOT) if name.startswith("kmdf") else ROOT
-        os.symlink(os.path.join(programs, name), os.path.join(folder, name))
+        os.symlink(os.path.join(ROOT, name), os.path.join(folder, name))
 
 
 def check_document(path):

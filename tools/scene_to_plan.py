@@ -355,32 +355,25 @@ class Scene:
         return f"event.Posted {agent} ({self.post(t)}) {answer}"
 
     def cpu_event(self, cpu, w):
-        match w:
-            case ["start", callback, owner, *request]:
-                about = f"(Some {self.printed(request[0])})" if request else "None"
-                return f"event.Start {cpu} callback.{callback} {self.printed(owner)} {about}"
-            case ["step", line]:
-                return f"event.Local {cpu} {line}"
-            case ["log", value]:
-                return f"event.Log {cpu} {self.value(value)}"
-            case ["spend", ticks]:
-                return f"event.Spend {cpu} {ticks}"
-            case ["get", register, _, value]:
-                return f"event.Register {cpu} access.Read {self.register(register)} {value}"
-            case ["put", register, value]:
-                return f"event.Register {cpu} access.Write {self.register(register)} {value}"
-            case ["call", *call, _, value]:
-                return f"event.Did {cpu} {self.call(call)} {self.value(value)}"
-            case ["wait", *call]:
-                return f"event.Waiting {cpu} {self.call(call)}"
-            case ["woke", *call, _, value]:
-                return f"event.Woke {cpu} {self.call(call)} {self.value(value)}"
-            case ["park" | "unpark" as kind, frame]:
-                return f"event.{kind.capitalize()} {cpu} (f {frame})"
-            case ["end", callback, owner, value]:
-                return f"event.End {cpu} callback.{callback} {self.printed(owner)} {self.value(value)}"
-            case ["fault", fault, line]:
-                return f"event.Fault {cpu} fault.{fault} {line}"
+        kind, *rest = w
+        if kind == "start":
+            about = f"(Some {self.printed(rest[2])})" if len(rest) > 2 else "None"
+            return f"event.Start {cpu} callback.{rest[0]} {self.printed(rest[1])} {about}"
+        if kind == "end":
+            return f"event.End {cpu} callback.{rest[0]} {self.printed(rest[1])} {self.value(rest[2])}"
+        if kind in ("call", "woke"):
+            return f"event.{'Did' if kind == 'call' else 'Woke'} {cpu} {self.call(rest[:-2])} {self.value(rest[-1])}"
+        if kind == "wait":
+            return f"event.Waiting {cpu} {self.call(rest)}"
+        if kind in ("park", "unpark"):
+            return f"event.{kind.capitalize()} {cpu} (f {rest[0]})"
+        if kind in ("get", "put"):
+            return f"event.Register {cpu} access.{'Read' if kind == 'get' else 'Write'} {self.register(rest[0])} {rest[-1]}"
+        if kind == "fault":
+            return f"event.Fault {cpu} fault.{rest[0]} {rest[1]}"
+        # a step inside a frame: its line, its value or its ticks
+        name, value = {"step": ("Local", rest[0]), "log": ("Log", self.value(rest[0])), "spend": ("Spend", rest[0])}[kind]
+        return f"event.{name} {cpu} {value}"
 
     def framework_event(self, w):
         if w[0] == "stage":

@@ -81,7 +81,7 @@ def code_without_unused(text, traits):
     def left(found):
         indent, ghost, path, dot, listed, alias = found.groups()
         if listed is None:
-            name = (alias or re.split(r"\.|::", path)[-1]).removeprefix(" as ")
+            name = re.sub("^ as ", "", alias) if alias else re.split(r"\.|::", path)[-1]
             if is_used(name):
                 return found.group(0)
             unused.append(f"{path}{alias or ''}")

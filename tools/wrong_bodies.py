@@ -34,7 +34,7 @@ def pairs_of(edit):
     file, old = None, None
     for number, line in enumerate(edit.read_text(encoding="utf-8").splitlines(), 1):
         word, _, rest = line.partition(":")
-        rest = rest.removeprefix(" ")
+        rest = re.sub("^ ", "", rest)
         if word == "file":
             file = rest.strip()
         elif word == "old":
