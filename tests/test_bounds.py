@@ -1,5 +1,7 @@
 """Numbers and lines that have a bound: the greatest is accepted, and one more is refused by the name of its limit."""
 
+from __future__ import annotations
+
 import unittest
 
 from rows import answer
@@ -60,16 +62,16 @@ LINES = (
 
 
 class Bounds(unittest.TestCase):
-    def assert_bounded(self, limit, line, within, past):
+    def assert_bounded(self, limit: str, line: int, within: str, past: str) -> None:
         self.assertEqual(answer("check", within.encode())[0], 0)
         self.assertEqual(answer("check", past.encode())[:2], (11, f"plan refused at line {line}: OverLimit {limit}\n".encode()))
 
-    def test_numbers(self):
+    def test_numbers(self) -> None:
         for limit, line, within, past, text in NUMBERS:
             with self.subTest(limit=limit, past=past, text=text):
                 self.assert_bounded(limit, line, text.format(within), text.format(past))
 
-    def test_lines(self):
+    def test_lines(self) -> None:
         for limit, bound, each, more, line, before, after in LINES:
             front = "cpus 1\nlimit 9\nobjects 99\n" + before + "".join(each.format(number) for number in range(bound))
             with self.subTest(limit=limit):

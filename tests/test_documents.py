@@ -11,13 +11,15 @@ The rows of "What a C programmer writes" must be refused so, and what is meant m
 of refusals and faults scenarios/refused has a text; what it is answered is in its first line.
 """
 
+from __future__ import annotations
+
 import os
 import re
 import subprocess
 import tempfile
 import unittest
 
-from rows import ENDING, ROOT, STATUSES, call, check, files_in, read, row, status_of
+from rows import ROOT, STATUSES, call, check, ending_of, files_in, read, row, status_of
 
 DOCUMENTS = ["README.md", *files_in("docs", ".md")]
 HEAD = "cpus 1\nlimit 100\nobjects 64\n"
@@ -57,7 +59,7 @@ SLIPS = re.compile(r"^\| written \|.*?\n\n", re.MULTILINE | re.DOTALL)
 NAMING = ("Keeping a trace, and checking it again", "When a text is refused", "When a plan is refused", "When the driver is at fault")
 
 
-def check_trace(place, text, scenario):
+def check_trace(place: str | None, text: str, scenario: str) -> str | None:
     """What is wrong with a run that a document shows, if anything is."""
     if not place:
         return None if call("order", scenario) == (status_of(text), text) else "another run"
@@ -65,22 +67,25 @@ def check_trace(place, text, scenario):
     return None if ("\n" + call(words, read(path))[1]).endswith("\n" + text) else f"`{words}` writes something else at the end"
 
 
-def check_console(folder, text):
+def check_console(folder: str, text: str) -> str | None:
     """What is wrong with the lines of a shell and what they write, if anything is."""
     for line, due in re.findall(r"^\$ ([^\n]*)\n((?:(?!\$ )[^\n]*\n)*)", text, re.MULTILINE):
-        done = subprocess.run(["bash", "-c", line], cwd=folder, stdin=subprocess.DEVNULL, stdout=subprocess.PIPE, stderr=subprocess.STDOUT, text=True, check=False)
-        if done.stdout != due:
-            return f"`{line}` writes\n{done.stdout}"
+        with subprocess.Popen(
+            ["bash", "-c", line], cwd=folder, stdin=subprocess.DEVNULL, stdout=subprocess.PIPE, stderr=subprocess.STDOUT, text=True
+        ) as shell:
+            written = shell.communicate()[0]
+        if written != due:
+            return f"`{line}` writes\n{written}"
     return None if text.startswith("$ ") else "no line of a shell"
 
 
-def workplace(folder):
+def workplace(folder: str) -> None:
     """Makes a folder one in which the lines of a document can be run."""
     for name in ("kmdfsim", "kmdfhunt", "kmdfview", "examples", "scenarios"):
         os.symlink(os.path.join(ROOT, name), os.path.join(folder, name))
 
 
-def check_document(path):
+def check_document(path: str) -> str:
     """The faults of a document's examples, a line each."""
     faults, scenario, text = [], "", read(path)
     with tempfile.TemporaryDirectory(prefix="kmdfsim-") as folder:
@@ -100,7 +105,7 @@ def check_document(path):
     return "\n".join(faults)
 
 
-def written_out(cell):
+def written_out(cell: str) -> tuple[list[str], str]:
     """The statements in a cell of the table of slips, with an `if` above a first `else`, and with each `end`."""
     lines = re.findall(r"`([^`]*)`", cell.split(": ")[0])
     lines = [line for line in lines if line != "end"]
@@ -110,10 +115,10 @@ def written_out(cell):
     return lines, "".join(line + "\n" for line in ["let a = 1", "let b = 2", *lines, *["end"] * ends])
 
 
-def check_slip(row):
+def check_slip(line: str) -> str | None:
     """What is wrong with a row of the table of what a C programmer writes, if anything is."""
     before, after = AROUND["statements"]
-    written, name, meant = (cell.strip() for cell in row.strip("| ").split(" | "))
+    written, name, meant = (cell.strip() for cell in line.strip("| ").split(" | "))
     lines, text = written_out(written)
     answer = call("check", before + text + after)[1]
     due = (before + "let a = 1\nlet b = 2\n").count("\n") + len(lines)
@@ -122,13 +127,13 @@ def check_slip(row):
     return check(before + written_out(meant)[1] + after)
 
 
-def slips():
+def slips() -> list[str]:
     """The rows of the table of what a C programmer writes, in whichever document it is."""
     tables = [table.group() for table in map(SLIPS.search, map(read, DOCUMENTS)) if table]
-    return [row for table in tables for row in table.strip().split("\n")[2:]]
+    return [line for table in tables for line in table.strip().split("\n")[2:]]
 
 
-def named(title):
+def named(title: str) -> set[str]:
     """The names in the tables of a section, in whichever document it is."""
     heading = re.compile(rf"^##+ {re.escape(title)}\n(.*?)(?=^##+ |\Z)", re.MULTILINE | re.DOTALL)
     sections = [section.group(1) for section in map(heading.search, map(read, DOCUMENTS)) if section]
@@ -136,30 +141,29 @@ def named(title):
     return {name.split()[-1] for cell in cells for name in re.findall(r"`([^`]*)`", cell)}
 
 
-def ending_of(trace):
+def told_ending_of(trace: str) -> str:
     """The ending of a run in a word; of a fault its name and its line, too."""
-    word = ENDING.search(trace).group(1)
     fault = re.search(r" fault (\w+) (\d+)$", trace, re.MULTILINE)
-    return f"fault {fault.group(1)} at line {fault.group(2)}" if word == "fault" else word
+    return f"fault {fault.group(1)} at line {fault.group(2)}" if fault else ending_of(trace)
 
 
-def check_refused(path):
+def check_refused(path: str) -> str | None:
     """What is wrong with the answer to a text of scenarios/refused, if anything is."""
     text = read(path)
     words, _, due = text.split("\n")[0].lstrip("# ").partition(": ")
     status, answer = call(words, text)
-    answer = ending_of(answer) if words == "order" and status in STATUSES.values() else answer.split("\n")[0]
+    answer = told_ending_of(answer) if words == "order" and status in STATUSES.values() else answer.split("\n")[0]
     return None if answer == due and os.path.basename(path)[:-5] in due.split() else answer
 
 
 class Tables(unittest.TestCase):
     """The tables of the guide are where they are looked for."""
 
-    def test_there_are_slips(self):
+    def test_there_are_slips(self) -> None:
         self.assertTrue(slips())
 
-    def test_each_name_has_a_text(self):
-        names = set()
+    def test_each_name_has_a_text(self) -> None:
+        names: set[str] = set()
         for title in NAMING:
             with self.subTest(title=title):
                 self.assertTrue(named(title))
@@ -167,8 +171,8 @@ class Tables(unittest.TestCase):
         self.assertEqual({os.path.basename(path)[:-5] for path in files_in("scenarios/refused", ".kmdf")}, names)
 
 
-def load_tests(_loader, tests, _pattern):
-    tests.addTests(row(f"examples of {path}", lambda path=path: check_document(path)) for path in DOCUMENTS if FENCED.search(read(path)))
-    tests.addTests(row(f"a slip: {line.split(' | ')[0].strip('| ')}", lambda line=line: check_slip(line)) for line in slips())
-    tests.addTests(row(path, lambda path=path: check_refused(path)) for path in files_in("scenarios/refused", ".kmdf"))
+def load_tests(_loader: unittest.TestLoader, tests: unittest.TestSuite, _pattern: str | None) -> unittest.TestSuite:
+    tests.addTests(row(f"examples of {path}", check_document, path) for path in DOCUMENTS if FENCED.search(read(path)))
+    tests.addTests(row(f"a slip: {line.split(' | ')[0].strip('| ')}", check_slip, line) for line in slips())
+    tests.addTests(row(path, check_refused, path) for path in files_in("scenarios/refused", ".kmdf"))
     return tests

@@ -1,5 +1,7 @@
 """The generated scenarios: lines of their texts, which another program made, and what `load` says of their runs."""
 
+from __future__ import annotations
+
 import unittest
 
 from rows import answer
@@ -53,19 +55,19 @@ LINES = {
 
 
 class Generated(unittest.TestCase):
-    def test_a_text(self):
+    def test_a_text(self) -> None:
         status, out, error = answer("gen 7", b"")
         self.assertEqual((status, len(out), error), (0, 48_538, b""))
         self.assertTrue(out.decode().startswith(HEAD) and out.decode().endswith(END))
 
-    def test_lines(self):
+    def test_lines(self) -> None:
         for number, lines in LINES.items():
             found = answer(f"gen {number}", b"")[1].decode().splitlines()
             with self.subTest(number=number):
                 self.assertEqual(len(found), 2929)
                 self.assertEqual({place: found[place] for place in lines}, lines)
 
-    def test_runs(self):
+    def test_runs(self) -> None:
         for number in (3, 7):
             with self.subTest(number=number):
                 self.assertEqual(answer(f"load {number}", b""), (0, b"events 20000\nrequests 2900\ncompleted 2900\nfinished\n", b""))

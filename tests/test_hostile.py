@@ -1,8 +1,11 @@
 """Texts that were made to break the program, of those that `tools/hostile.py` has: each at a limit, some random ones, and each
 fiftieth front or change of an example. How long an answer takes isn't looked at here. And texts as Windows writes them."""
 
+from __future__ import annotations
+
 import itertools
 import unittest
+from typing import Iterator
 
 from rows import call, launched, read, row
 import hostile
@@ -12,7 +15,7 @@ PARTS = 8
 REFUSED = (10, "parse refused at line 1: NotAscii\n")
 
 
-def texts():
+def texts() -> Iterator[tuple[str, bytes]]:
     """Each text with its name."""
     yield from hostile.at_limits()
     for seed in range(1, 11):
@@ -20,7 +23,7 @@ def texts():
     yield from itertools.islice(hostile.fronts_and_changes(1), 0, None, 50)
 
 
-def faults(part):
+def faults(part: int) -> str:
     """What is wrong with the answers to a part of the texts, a line each."""
     found = []
     for name, text in itertools.islice(texts(), part, None, PARTS):
@@ -37,17 +40,17 @@ class Windows(unittest.TestCase):
 
     text = read("examples", "first-read.kmdf")
 
-    def test_lines_end_in_cr_lf(self):
+    def test_lines_end_in_cr_lf(self) -> None:
         self.assertEqual(call("check", self.text.replace("\n", "\r\n")), call("check", self.text))
 
-    def test_a_byte_order_mark(self):
+    def test_a_byte_order_mark(self) -> None:
         self.assertEqual(call("check", b"\xef\xbb\xbf" + self.text.encode()), REFUSED)
 
-    def test_utf_16(self):
+    def test_utf_16(self) -> None:
         self.assertEqual(call("check", self.text.encode("utf-16")), REFUSED)
         self.assertEqual(call("check", self.text.encode("utf-16-le")), REFUSED)
 
 
-def load_tests(_loader, tests, _pattern):
-    tests.addTests(row(f"hostile texts, part {part + 1} of {PARTS}", lambda part=part: faults(part)) for part in range(PARTS))
+def load_tests(_loader: unittest.TestLoader, tests: unittest.TestSuite, _pattern: str | None) -> unittest.TestSuite:
+    tests.addTests(row(f"hostile texts, part {part + 1} of {PARTS}", faults, part) for part in range(PARTS))
     return tests

@@ -1,6 +1,8 @@
 """Tests of ./test over a small made tree: what it tells of tests that pass, fail and are skipped, in their order, and of programs that
 aren't there."""
 
+from __future__ import annotations
+
 import os
 import shutil
 import subprocess
@@ -39,7 +41,7 @@ GONE = """import unittest, nothing_of_this_name
 
 
 class Tests(unittest.TestCase):
-    def setUp(self):
+    def setUp(self) -> None:
         room = tempfile.TemporaryDirectory()
         self.addCleanup(room.cleanup)
         self.room = room.name
@@ -50,21 +52,21 @@ class Tests(unittest.TestCase):
         for name in ("kmdfsim", "kmdfhunt", "kmdfview"):
             self.put(f"programs/{name}", "#!/bin/sh\n")
 
-    def put(self, path, text):
+    def put(self, path: str, text: str) -> None:
         path = os.path.join(self.room, path)
         os.makedirs(os.path.dirname(path), exist_ok=True)
         with open(path, "w", encoding="ascii") as file:
             file.write(text)
         os.chmod(path, 0o755)
 
-    def call(self, *words):
+    def call(self, *words: str) -> tuple[int, list[str]]:
         """The status of ./test, and the lines that it writes."""
         env = {name: value for name, value in os.environ.items() if name != "KMDFSIM_PROGRAMS"}
         done = subprocess.run(["./test", *words], cwd=self.room, env=env, stdin=subprocess.DEVNULL, capture_output=True, text=True, check=False)
         self.assertEqual(done.stderr, "")
         return done.returncode, done.stdout.splitlines()
 
-    def test_all(self):
+    def test_all(self) -> None:
         status, lines = self.call("--programs", "programs")
         # (A class runs as a whole, its tests by their names.)
         self.assertEqual((status, lines[0], lines[-1]), (1, ".F.sF", "2 passed, 2 failed"))
@@ -73,23 +75,23 @@ class Tests(unittest.TestCase):
             self.assertIn(said, text)
         self.assertIn("skipped test_made.Second.test_four: not today", lines)
 
-    def test_some(self):
+    def test_some(self) -> None:
         status, lines = self.call("--programs", "programs", "one", "five")
         self.assertEqual((status, lines[0], lines[-1]), (0, "..", "2 passed, 0 failed"))
 
-    def test_none(self):
+    def test_none(self) -> None:
         self.assertEqual(self.call("--programs", "programs", "no such test")[0], 1)
 
-    def test_a_list(self):
+    def test_a_list(self) -> None:
         self.assertEqual(self.call("--list", "First"), (0, ["test_made.First.test_one", "test_made.First.test_two"]))
 
-    def test_a_file_that_cannot_be_read(self):
+    def test_a_file_that_cannot_be_read(self) -> None:
         self.put("tests/test_gone.py", GONE)
         status, lines = self.call("--programs", "programs", "test_gone")
         self.assertEqual((status, lines[-1]), (1, "0 passed, 1 failed"))
         self.assertIn("nothing_of_this_name", "\n".join(lines))
 
-    def test_a_program_that_is_not_there(self):
+    def test_a_program_that_is_not_there(self) -> None:
         os.remove(os.path.join(self.room, "programs/kmdfview"))
         status, lines = self.call("--programs", "programs")
         self.assertEqual((status, lines[-1]), (1, "0 passed, 1 failed"))

@@ -1,9 +1,12 @@
 """What `kmdfview` shows of worked runs: the shapes of the page, and what a viewer of traces is told as JSON."""
 
+from __future__ import annotations
+
 import collections
 import json
 import re
 import unittest
+from typing import Iterator
 
 from rows import answer, call, read, row
 import check_view
@@ -20,18 +23,18 @@ KINDS = [re.compile(kind) for kind in (r"req\.", r"\d+ \d+ (waiting|held)", r"\d
 OF_FRAMES = re.compile(r"cpu\d|\d+ is parked|calls")
 
 
-def given(path):
+def given(path: str) -> str:
     """A worked run as `kmdfview` reads it."""
     return read(path + ".scn") + "trace\n" + read(path + ".out")
 
 
-def frame_of(title):
+def frame_of(title: str) -> str:
     """The frame of a shape with this title: the number of the event that starts it."""
     number, _, kind, *rest = title.split("\n")[0].split()
     return rest[-1] if kind in ("unpark", "park") else number
 
 
-def stays(page):
+def stays(page: str) -> Iterator[tuple[str, str, int, int, int]]:
     """Where frames run: the processor, the frame, how deep it is, and between which events."""
     lanes = {name: int(y) for y, name in LANE.findall(page)}
     for kind, start, end, _, y, title, _ in SHAPE.findall(page):
@@ -40,7 +43,7 @@ def stays(page):
             yield cpu, frame_of(title), (int(y) - lanes[cpu] - LABEL) // DEPTH, int(start), int(end)
 
 
-def told(page):
+def told(page: str) -> Iterator[str]:
     """What a page shows, a line for each shape, and the count of calls."""
     running = list(stays(page))
     yield from (f"{cpu} {frame} runs at depth {depth}: {start} {end}" for cpu, frame, depth, start, end in running)
@@ -59,38 +62,38 @@ def told(page):
     yield f"calls: {calls}"
 
 
-def fault(path, due):
+def fault(path: str, due: list[str]) -> str:
     """What a page shows and shouldn't, or doesn't and should, a line each."""
     status, page = call("kmdfview html", given(path))
     if status != 0:
         return f"status {status}: {page}"
-    found = list(told(page))
     kinds = [kind for kind in KINDS if any(map(kind.match, due))] + [OF_FRAMES] * any(line.startswith("calls") for line in due)
-    found, due = collections.Counter(line for line in found if any(kind.match(line) for kind in kinds)), collections.Counter(due)
-    return "\n".join([f"not due: {line}" for line in found - due] + [f"not shown: {line}" for line in due - found])
+    found = collections.Counter(line for line in told(page) if any(kind.match(line) for kind in kinds))
+    wanted = collections.Counter(due)
+    return "\n".join([f"not due: {line}" for line in found - wanted] + [f"not shown: {line}" for line in wanted - found])
 
 
 class Json(unittest.TestCase):
-    def test_the_first_read(self):
+    def test_the_first_read(self) -> None:
         due = read("tests", "first_read.json").replace("\n", "")
         self.assertEqual(answer("kmdfview perfetto", given("tools/runs/requests/one_read").encode()), (0, due.encode(), b""))
 
-    def counts(self, path):
+    def counts(self, path: str) -> list[int]:
         """How many items of each phase there are."""
         items = json.loads(call("kmdfview perfetto", given(path))[1])["traceEvents"]
         self.assertTrue(check_view.slices_nest(items))
         self.assertTrue(check_view.spans_end(items))
         return [sum(item["ph"] == phase for item in items) for phase in "XbeC"]
 
-    def test_items(self):
+    def test_items(self) -> None:
         # Five stays, two waits, eight calls, two phases; one parked span; no queue, and four ticks.
         self.assertEqual(self.counts("tools/runs/processors/periodic_timer"), [17, 1, 1, 4])
         # Nine stays, twelve calls, three phases; three requests at eleven places; eleven counts, and two ticks.
         self.assertEqual(self.counts("tools/runs/power/sleep_and_wake"), [24, 14, 14, 13])
 
 
-def load_tests(_loader, tests, _pattern):
+def load_tests(_loader: unittest.TestLoader, tests: unittest.TestSuite, _pattern: str | None) -> unittest.TestSuite:
     for part in read("tests", "pictures.txt").split("=== ")[1:]:
         path, *due = part.strip().split("\n")
-        tests.addTest(row(f"picture of {path}", lambda at=(path, due): fault(*at)))
+        tests.addTest(row(f"picture of {path}", fault, path, due))
     return tests

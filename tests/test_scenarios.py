@@ -8,11 +8,14 @@ Of each worked run the program must write the trace that is beside it, which was
 with two registers IDLE_TIMEOUT there is none: `check` must refuse it.
 """
 
+from __future__ import annotations
+
 import os
 import re
+import unittest
 
 from rows import call, check, files_in, read, replay, row, status_of
-from test_documents import ending_of
+from test_documents import told_ending_of
 
 SEEDS = int(os.environ.get("KMDFSIM_SEEDS", "3"))
 FOLDERS = ("examples", "scenarios/drivers", "scenarios/hunt", "scenarios/not-found", "scenarios/pictures")
@@ -21,12 +24,12 @@ STATUS = re.compile(r"the status (\d+)")
 SEED = re.compile(r"^# Seed (\d+): (.*)$", re.MULTILINE)
 
 
-def worked_runs():
+def worked_runs() -> list[tuple[str, str]]:
     """The words and the path of each worked run."""
     return [(words, path) for words, folder in WORKED for path in files_in(folder, ".scn")]
 
 
-def check_file(path):
+def check_file(path: str) -> str | None:
     """What is wrong with a scenario that is to be run, if anything is."""
     text = read(path)
     head = text.split("\ncpus")[0]
@@ -35,14 +38,14 @@ def check_file(path):
     if status != (int(named.group(1)) if named else 0):
         return f"the run ends with {status}"
     for seed, ending in SEED.findall(head):
-        found = ending_of(call(f"seed {seed}", text)[1])
+        found = told_ending_of(call(f"seed {seed}", text)[1])
         if found != ending:
             return f"seed {seed}: {found}"
     faults = [check(text), *(replay(text, call(words, text)[1]) for words in ("order", *(f"seed {seed}" for seed in range(SEEDS))))]
     return next(filter(None, faults), None)
 
 
-def check_worked(words, path):
+def check_worked(words: str, path: str) -> str | None:
     """What is wrong with a worked run, if anything is."""
     text = read(path)
     if text.count("register IDLE_TIMEOUT") > 1:
@@ -51,8 +54,8 @@ def check_worked(words, path):
     return None if call(words, text) == (status_of(trace), trace) else "another run"
 
 
-def load_tests(_loader, tests, _pattern):
+def load_tests(_loader: unittest.TestLoader, tests: unittest.TestSuite, _pattern: str | None) -> unittest.TestSuite:
     scenarios = [path for folder in FOLDERS for path in files_in(folder, ".kmdf")]
-    tests.addTests(row(path, lambda path=path: check_file(path)) for path in scenarios)
-    tests.addTests(row(f"{words} of {path}", lambda at=(words, path): check_worked(*at)) for words, path in worked_runs())
+    tests.addTests(row(path, check_file, path) for path in scenarios)
+    tests.addTests(row(f"{words} of {path}", check_worked, words, path) for words, path in worked_runs())
     return tests

@@ -2,6 +2,8 @@
 wrong body that isn't tried in the gate can be applied. Then a short search for runs that break what `lint` says, and the pages of
 `kmdfview` in a browser, where there is one."""
 
+from __future__ import annotations
+
 import unittest
 
 from rows import launched, row, script
@@ -19,23 +21,23 @@ CHECKS = (
 )
 
 
-def check(words):
+def check(words: str) -> str | None:
     path, *more = words.split()
     return script(f"tools/{path}", *more)
 
 
-def look_at_pages():
+def look_at_pages() -> str | None:
     if check_view.lacking():
         raise unittest.SkipTest(f"no {check_view.lacking()} here")
     return script("tools/check_view.py", launched("kmdfsim"), launched("kmdfview"))
 
 
-def search_clean_scripts():
+def search_clean_scripts() -> str | None:
     return script("tools/lint_search.py", "--program", launched("kmdfsim"), "--scenarios", "5", "--seeds", "10")
 
 
-def load_tests(_loader, tests, _pattern):
+def load_tests(_loader: unittest.TestLoader, tests: unittest.TestSuite, _pattern: str | None) -> unittest.TestSuite:
     tests.addTest(row("pages in a browser", look_at_pages))
-    tests.addTests(row(f"tools/{words}", lambda words=words: check(words)) for words in CHECKS)
+    tests.addTests(row(f"tools/{words}", check, words) for words in CHECKS)
     tests.addTest(row("no fault in what `lint` calls clean", search_clean_scripts))
     return tests

@@ -1,6 +1,8 @@
 """Inputs that can't be read or are too large, and outputs that can't be written: each is told by its status, and what is written before
 is a front of what was to be written."""
 
+from __future__ import annotations
+
 import os
 import resource
 import signal
@@ -8,6 +10,7 @@ import subprocess
 import tempfile
 import tty
 import unittest
+from typing import Callable
 
 from rows import answer, call, launched, read
 from test_threads import LONG
@@ -23,10 +26,10 @@ KEPT_RUN = "".join(f"{read + 1} A read D.2 16 -> req.{read + 4}\n" for read in r
 KEPT_RUN += "".join(f"req.{read + 4} queued Q.3 manual\n" for read in range(READS))
 
 
-def limited(size):
+def limited(size: int) -> Callable[[], None]:
     """What lets no file of a process grow past so many bytes."""
 
-    def limit():
+    def limit() -> None:
         signal.signal(signal.SIGXFSZ, signal.SIG_IGN)
         resource.setrlimit(resource.RLIMIT_FSIZE, (size, size))
 
@@ -34,7 +37,7 @@ def limited(size):
 
 
 class Sources(unittest.TestCase):
-    def test_one_that_cannot_be_read(self):
+    def test_one_that_cannot_be_read(self) -> None:
         folder = os.open(".", os.O_RDONLY)
         self.addCleanup(os.close, folder)
         for words in ("check", "order", "seed 9", "replay", "run", "watch", "idle", "stack", "lint"):
@@ -42,7 +45,7 @@ class Sources(unittest.TestCase):
                 done = subprocess.run([launched("kmdfsim"), *words.split()], stdin=folder, capture_output=True, check=False)
                 self.assertEqual((done.returncode, done.stdout, done.stderr), (12, b"read fault\n", b""))
 
-    def test_one_that_fails_after_the_text(self):
+    def test_one_that_fails_after_the_text(self) -> None:
         scenario = ONE_READ_TEXT
         for words, text in (("check", scenario), ("order", scenario), ("seed 9", scenario), ("replay", scenario + "trace\n"), ("run", scenario), ("watch", scenario)):
             # Who reads from a terminal whose other end is closed gets what was written, and then an error.
@@ -54,14 +57,15 @@ class Sources(unittest.TestCase):
                 done = subprocess.run([launched("kmdfsim"), *words.split()], stdin=given, capture_output=True, check=False)
                 self.assertEqual((done.returncode, done.stdout, done.stderr), (12, b"read fault\n", b""))
 
-    def test_one_that_comes_byte_by_byte(self):
-        with subprocess.Popen([launched("kmdfsim"), "order"], stdin=subprocess.PIPE, stdout=subprocess.PIPE, bufsize=0) as run:
+    def test_one_that_comes_byte_by_byte(self) -> None:
+        ours, theirs = os.pipe()
+        with open(ours, "rb") as given, subprocess.Popen([launched("kmdfsim"), "order"], stdin=given, stdout=subprocess.PIPE) as run:
             for byte in ONE_READ_TEXT:
-                run.stdin.write(byte.encode())
-            run.stdin.close()
-            self.assertEqual((run.stdout.read(), run.wait()), (read(ONE_READ + ".out").encode(), 0))
+                os.write(theirs, byte.encode())
+            os.close(theirs)
+            self.assertEqual((run.communicate()[0], run.returncode), (read(ONE_READ + ".out").encode(), 0))
 
-    def test_one_that_is_too_large(self):
+    def test_one_that_is_too_large(self) -> None:
         for words in ("order", "run"):
             with self.subTest(words=words):
                 self.assertEqual(answer(words, b"\n" * (INPUT_LIMIT + 1)), (14, b"input too large\n", b""))
@@ -69,7 +73,7 @@ class Sources(unittest.TestCase):
 
 
 class Sinks(unittest.TestCase):
-    def test_one_that_takes_nothing(self):
+    def test_one_that_takes_nothing(self) -> None:
         scenario = ONE_READ_TEXT
         rows = [(words, scenario) for words in ("check", "order", "seed 9", "replay", "run", "watch", "idle", "stack", "lint")]
         for words, text in (*rows, ("check", ""), ("order", ""), ("run", ""), ("", ""), ("load 7", ""), ("gen 7", "")):
@@ -77,18 +81,18 @@ class Sinks(unittest.TestCase):
                 done = subprocess.run([launched("kmdfsim"), *words.split()], input=text.encode(), stdout=full, stderr=subprocess.PIPE, check=False)
                 self.assertEqual((done.returncode, done.stderr), (13, b""))
 
-    def written(self, words, text, size):
+    def written(self, words: str, text: str, size: int) -> tuple[int, bytes, bytes]:
         """The status, what is written into a file that may have so many bytes, and what is said."""
         with tempfile.TemporaryFile() as file:
-            how = {"stdout": file, "stderr": subprocess.PIPE, "preexec_fn": limited(size), "check": False}
-            done = subprocess.run([launched("kmdfsim"), *words.split()], input=text.encode(), **how)
+            line = [launched("kmdfsim"), *words.split()]
+            done = subprocess.run(line, input=text.encode(), stdout=file, stderr=subprocess.PIPE, preexec_fn=limited(size), check=False)
             file.seek(0)
             return done.returncode, file.read(), done.stderr
 
-    def assert_front(self, words, text, whole, size):
+    def assert_front(self, words: str, text: str, whole: str, size: int) -> None:
         self.assertEqual(self.written(words, text, size), (13, whole.encode()[:size], b""))
 
-    def test_one_that_gets_full(self):
+    def test_one_that_gets_full(self) -> None:
         scenario, run = ONE_READ_TEXT, read(ONE_READ + ".out")
         self.assert_front("order", scenario, run, 40)
         self.assert_front("check", scenario, scenario, 40)
@@ -96,7 +100,7 @@ class Sinks(unittest.TestCase):
         for size in (16_000, 16_378, 16_379, 32_738, 38_197):
             self.assert_front("order", KEPT, KEPT_RUN, size)
 
-    def test_one_that_gets_full_while_threads_run(self):
+    def test_one_that_gets_full_while_threads_run(self) -> None:
         for words in ("run", "watch"):
             for scenario, size in ((ONE_READ_TEXT, 40), (LONG, 16_352), (LONG, 16_400)):
                 with self.subTest(words=words, size=size):
@@ -105,5 +109,5 @@ class Sinks(unittest.TestCase):
                     lines = front[: front.rindex(b"\n") + 1].decode()
                     self.assertEqual(call("replay", f"{scenario}trace\n{lines}"), (6, f"refused at line {lines.count(chr(10)) + 1}: Missing\n"))
 
-    def test_one_that_takes_all(self):
+    def test_one_that_takes_all(self) -> None:
         self.assertEqual(answer("order", KEPT.encode()), (4, KEPT_RUN.encode(), b""))

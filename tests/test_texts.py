@@ -7,8 +7,11 @@ backslash is read as in Python: `\\r`, `\\t`, `\\xc8`, and one at a line's end t
 program wrote.
 """
 
-import os
+from __future__ import annotations
+
 import re
+import unittest
+from typing import Iterator, Tuple
 
 from rows import answer, files_in, read, row
 
@@ -16,27 +19,31 @@ ROW = re.compile(r"^===(?: (.*))?\n", re.MULTILINE)
 ANSWER = re.compile(r"^---(?: ?(.*))?: (\d+)(, the same text)?\n", re.MULTILINE)
 
 
-def rows_of(path):
-    """The line, the name, the input and the answers of each row of a file; an answer has its words, its status and its text."""
+# Words, and the status and the text that are due.
+Answer = Tuple[str, int, bytes]
+
+
+def rows_of(path: str) -> Iterator[tuple[int, str, bytes, list[Answer]]]:
+    """The line, the name, the input and the answers of each row of a file."""
     text = read(path)
     places = [*ROW.finditer(text)]
     for at, place in enumerate(places):
         end = places[at + 1].start() - 1 if at + 1 < len(places) else len(text)
-        given, *rest = ANSWER.split(text[place.end() : end])
-        given = given.encode("ascii").decode("unicode_escape").encode("latin-1")
+        escaped, *rest = ANSWER.split(text[place.end() : end])
+        given = escaped.encode("ascii").decode("unicode_escape").encode("latin-1")
         answers = [(words, int(status), given if same else due.encode()) for words, status, same, due in zip(*[iter(rest)] * 4)]
         yield text.count("\n", 0, place.start()) + 1, place.group(1) or "", given, answers
 
 
-def fault(given, words, status, due):
+def fault(given: bytes, words: str, status: int, due: bytes) -> str | None:
     """What is wrong with the answer to an input, if anything is."""
-    found = answer(words, given)
-    return None if found == (status, due, b"") else f"status {found[0]}\n{found[1].decode(errors='replace')}{found[2].decode(errors='replace')}"
+    found, out, error = answer(words, given)
+    return None if (found, out, error) == (status, due, b"") else f"status {found}\n{(out + error).decode(errors='replace')}"
 
 
-def load_tests(_loader, tests, _pattern):
+def load_tests(_loader: unittest.TestLoader, tests: unittest.TestSuite, _pattern: str | None) -> unittest.TestSuite:
     for path in files_in("tests/texts", ".txt"):
         for line, name, given, answers in rows_of(path):
             for words, status, due in answers:
-                tests.addTest(row(f"{path}:{line} {words or 'no words'}: {name}", lambda at=(given, words, status, due): fault(*at)))
+                tests.addTest(row(f"{path}:{line} {words or 'no words'}: {name}", fault, given, words, status, due))
     return tests

@@ -1,5 +1,7 @@
 """Runs in threads, by `run` and by `watch`: `replay` accepts the trace of each, and where all runs of a scenario end alike theirs ends so."""
 
+from __future__ import annotations
+
 import re
 import unittest
 
@@ -123,8 +125,9 @@ RUNS = (
 )
 
 
-def fault(word, text):
+def fault(word: str, path: str) -> str | None:
     """What is wrong with a run of a scenario, if anything is."""
+    text = read(path)
     status, trace, error = answer(word, text.encode())
     if status not in STATUSES.values() or error:
         return f"status {status}: {error.decode(errors='replace')}"
@@ -132,7 +135,7 @@ def fault(word, text):
 
 
 class Runs(unittest.TestCase):
-    def test_runs_that_end_alike(self):
+    def test_runs_that_end_alike(self) -> None:
         for text, status, end in RUNS:
             for word in ("run", "watch"):
                 with self.subTest(word=word, end=end):
@@ -142,7 +145,7 @@ class Runs(unittest.TestCase):
                     self.assertIsNone(replay(text, found[1].decode()))
 
 
-def load_tests(_loader, tests, _pattern):
+def load_tests(_loader: unittest.TestLoader, tests: unittest.TestSuite, _pattern: str | None) -> unittest.TestSuite:
     runs = [(word, path) for path in files_in("examples", ".kmdf") for word in ("run", "watch")]
-    tests.addTests(row(f"{word} of {path}", lambda at=(word, path): fault(at[0], read(at[1]))) for word, path in runs)
+    tests.addTests(row(f"{word} of {path}", fault, word, path) for word, path in runs)
     return tests

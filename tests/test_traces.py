@@ -1,5 +1,7 @@
 """Traces that `replay` judges: those of the worked runs are accepted, and a line that is none is told."""
 
+from __future__ import annotations
+
 import unittest
 
 from rows import call, read, replay, row
@@ -58,10 +60,10 @@ FRONTS = {
 class Port(unittest.TestCase):
     scenario, trace = read(PORT + ".scn"), read(PORT + ".out")
 
-    def test_its_text_is_canonical(self):
+    def test_its_text_is_canonical(self) -> None:
         self.assertEqual(call("check", self.scenario), (0, self.scenario))
 
-    def test_other_texts_are_no_lines(self):
+    def test_other_texts_are_no_lines(self) -> None:
         lines = self.trace.splitlines()
         for line, other in OTHERS:
             with self.subTest(line=line, other=other):
@@ -69,12 +71,12 @@ class Port(unittest.TestCase):
                 given = "\n".join([self.scenario + "trace", *lines[:place], other, *lines[place + 1 :], ""])
                 self.assertEqual(call("replay", given), (6, f"refused at line {place + 1}: NotALine\n"))
 
-    def test_fronts_of_a_text(self):
+    def test_fronts_of_a_text(self) -> None:
         found = {length: call("order", self.scenario[:length])[0] for length in range(len(self.scenario) + 1)}
         self.assertEqual({length: status for length, status in found.items() if status != 10}, FRONTS)
 
 
-def load_tests(_loader, tests, _pattern):
+def load_tests(_loader: unittest.TestLoader, tests: unittest.TestSuite, _pattern: str | None) -> unittest.TestSuite:
     paths = [path for words, path in worked_runs() if words == "order"]
-    tests.addTests(row(f"replay of {path}", lambda path=path: replay(read(path), read(path[:-4] + ".out"))) for path in paths)
+    tests.addTests(row(f"replay of {path}", replay, read(path), read(path[:-4] + ".out")) for path in paths)
     return tests
