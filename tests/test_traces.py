@@ -58,6 +58,9 @@ FRONTS = {
 class Port(unittest.TestCase):
     scenario, trace = read(PORT + ".scn"), read(PORT + ".out")
 
+    def test_its_text_is_canonical(self):
+        self.assertEqual(call("check", self.scenario), (0, self.scenario))
+
     def test_other_texts_are_no_lines(self):
         lines = self.trace.splitlines()
         for line, other in OTHERS:
