@@ -167,6 +167,11 @@ class Wrong(Built):
                 self.assertEqual(done.returncode, 2)
                 self.assertIn(why, done.stderr)
 
+    def test_both_outputs_in_one_file(self) -> None:
+        words = ["./kmdfsim", "ordr"]
+        both = subprocess.run(words, cwd=ROOT, stdin=subprocess.DEVNULL, stdout=subprocess.PIPE, stderr=subprocess.STDOUT, text=True, check=False)
+        self.assertIn("did you mean `order`?", both.stdout)
+
     def test_usage_stays(self) -> None:
         self.assertTrue(called("kmdfsim ordr").stdout.startswith("usage: kmdfsim check | order"))
 
