@@ -240,6 +240,14 @@ class Refused(Built):
         self.assertEqual((done.returncode, done.stdout), (10, f"{due_refusal()}\n"))
         self.assertIn("the text is no scenario (status 10)", done.stderr)
 
+    def test_pipe_into_a_file(self) -> None:
+        with tempfile.TemporaryFile("w+") as file:
+            file.write("before\n")
+            file.flush()
+            done = subprocess.run(["./kmdfsim", "order"], cwd=ROOT, input=text_of(BAD), stdout=file, stderr=subprocess.PIPE, text=True, check=False)
+            file.seek(0)
+            self.assertEqual((file.read(), done.stderr), (f"before\n{due_refusal()}\n", f"kmdfsim: {due_refusal()}\n"))
+
     def test_where_it_is_seen_it_is_there_once(self) -> None:
         with open(os.path.join(ROOT, BAD), "rb") as file:
             both = subprocess.run(["./kmdfsim", "order"], cwd=ROOT, stdin=file, stdout=subprocess.PIPE, stderr=subprocess.STDOUT, text=True, check=False)
@@ -365,7 +373,8 @@ class Hunts(Built):
             while len(pieces) < 3 and hunt.poll() is None:
                 pieces.update(pieces_of(hunt.pid))
                 time.sleep(0.01)
-            hunt.send_signal(signal.SIGTERM)
+            for _ in range(2):  # (as `timeout` does)
+                hunt.send_signal(signal.SIGTERM)
             table = hunt.communicate()[0]
         self.assertEqual((hunt.returncode, table), (143, self.due(tables.read(table))))
 
