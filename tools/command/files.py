@@ -46,9 +46,6 @@ def done(words: List[str], given: running.Input, call: Call, of: str) -> int:
         if is_painted:
             paint_lines(process)
         status = running.status_of(process)
-    except BrokenPipeError:
-        running.end(process)
-        return WRITE_FAULT
     except BaseException:
         running.end(process)
         raise
@@ -56,10 +53,18 @@ def done(words: List[str], given: running.Input, call: Call, of: str) -> int:
     return status
 
 
-def tell_unread(program: str, error: OSError, path: str) -> int:
+def tell_unread(program: str, error: OSError) -> int:
     """Says why a file can't be read, and answers the status for that."""
-    print(f"{program}: {path}: {error.strerror or error}", file=sys.stderr)
+    print(f"{program}: {error.filename}: {error.strerror}", file=sys.stderr)
     return READ_FAULT
+
+
+def tell_unwritten(program: str, error: OSError) -> int:
+    """Says why standard output can't be written, unless nobody reads it any more, and answers the status for that."""
+    if not isinstance(error, BrokenPipeError):
+        print(f"{program}: standard output: {error.strerror}", file=sys.stderr)
+    os.dup2(os.open(os.devnull, os.O_WRONLY), sys.stdout.fileno())  # (what is still to be written goes nowhere)
+    return WRITE_FAULT
 
 
 def each(call: Call, one: Callable[[str], int], has_heads: bool = True) -> int:
@@ -72,7 +77,9 @@ def each(call: Call, one: Callable[[str], int], has_heads: bool = True) -> int:
         try:
             status = one(path)
         except OSError as error:
-            status = tell_unread(call.program.name, error, path)
+            if not error.filename:  # (what can't be written has no name)
+                raise
+            status = tell_unread(call.program.name, error)
         sys.stdout.flush()
         if status and not found:
             first, found = path, status
@@ -83,8 +90,11 @@ def each(call: Call, one: Callable[[str], int], has_heads: bool = True) -> int:
 
 def read(path: Optional[str]) -> bytes:
     """The content of a file, or of standard input; of one that is longer than any program takes only so much that this shows."""
-    with open(0 if path is None else path, "rb", closefd=path is not None) as file:
-        return file.read(MOST + 1)
+    try:
+        with open(0 if path is None else path, "rb", closefd=path is not None) as file:
+            return file.read(MOST + 1)
+    except OSError as error:
+        raise OSError(error.errno, error.strerror, path or "standard input") from None
 
 
 def joined(paths: Sequence[str]) -> bytes:

@@ -48,29 +48,32 @@ def done(call: Call) -> int:
     return files.do(call, program)
 
 
+def served(name: str, words: List[str]) -> int:
+    """Serves the words after the program's name, and answers the status to end with."""
+    if asks_for_help(words):
+        return help_of(name, words)
+    if "--version" in words:
+        running.become([running.launcher(name), "--version"], None)
+    return done(parsed(PROGRAMS[name], words))
+
+
 def main(words: List[str]) -> int:
     """Serves the words that the launcher gives, and answers the status to end with."""
     if words[0] == "--refused":
         refusals.tell_handed_on(words[2], words[3:], int(words[1]))
         return 0
-    typed, rest = words[0], words[1:]
-    name = running.shown_name(typed)
+    typed, name = words[0], running.shown_name(words[0])
     running.heed_signals()
     if isinstance(sys.stdout, io.TextIOWrapper):
         sys.stdout.reconfigure(errors="surrogateescape")  # (the names of files may be any bytes)
     try:
-        if asks_for_help(rest):
-            return help_of(name, rest)
-        if "--version" in rest:
-            running.become([running.launcher(name), "--version"], None)
-        return done(parsed(PROGRAMS[name], rest))
+        status = served(name, words[1:])
+        sys.stdout.flush()
+        return status
     except WrongCall as why:
         refusals.tell_wrong(typed, why)
         return refusals.WRONG_WORDS
     except running.Stopped as stopped:
         return stopped.status
-    except BrokenPipeError:
-        sys.stderr.close()  # (nothing more can be said to who reads this)
-        return files.WRITE_FAULT
     except OSError as error:
-        return files.tell_unread(name, error, error.filename or "")
+        return files.tell_unread(name, error) if error.filename else files.tell_unwritten(name, error)

@@ -11,18 +11,30 @@ from .call import WrongCall, parsed
 from .words import PROGRAMS, REFUSED, STATUSES
 
 WRONG_WORDS = 2
+# No refusal has more bytes.
+LONGEST = 1000
 # The lines of these are always the same.
 LINES = {12: "read fault", 14: "input too large", 15: "out of memory"}
 
 
+def is_file(number: int) -> bool:
+    """Whether this stream is a file, which can be read again by its number."""
+    return stat.S_ISREG(os.fstat(number).st_mode)
+
+
+def last_line(path: str) -> str:
+    """The last line of a file."""
+    with open(path, "rb") as file:
+        file.seek(max(os.fstat(file.fileno()).st_size - LONGEST, 0))
+        return file.read().decode(errors="replace").rstrip("\n").rpartition("\n")[2]
+
+
 def again(words: List[str], given: running.Input, status: int) -> Optional[str]:
-    """The line with which a program refuses this input, where it can be asked once more."""
-    if given is None:
-        if not stat.S_ISREG(os.fstat(0).st_mode):
-            return None
-        given = "/proc/self/fd/0"  # (another place in the same file, its beginning)
+    """The line with which a program refuses this input: where it can be asked once more, or has written it to a file."""
     try:
-        found, text = running.answer(words, given)
+        if given is None and not is_file(0):
+            return last_line("/proc/self/fd/1") if is_file(1) else None
+        found, text = running.answer(words, "/proc/self/fd/0" if given is None else given)  # (from the file's beginning)
     except OSError:
         return None
     return text.decode(errors="replace").rstrip("\n") if found == status else None

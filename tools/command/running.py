@@ -13,7 +13,8 @@ from .words import PROGRAMS
 ROOT = os.path.dirname(os.path.dirname(os.path.dirname(os.path.realpath(__file__))))
 PR_SET_PDEATHSIG = 1
 INTERRUPTED = 128
-PIECE = 1 << 16
+# The signals that ask for the end.
+ENDS = (signal.SIGINT, signal.SIGTERM, signal.SIGHUP)
 
 Input = Union[bytes, str, None]  # the text itself, the path of a file, or standard input as it is
 
@@ -27,13 +28,15 @@ class Stopped(Exception):
 
 
 def stop(number: int, _frame: object) -> NoReturn:
-    """Handles a signal that asks for the end."""
+    """Handles the first signal that asks for the end. (`timeout` sends two.)"""
+    for again in ENDS:
+        signal.signal(again, signal.SIG_IGN)
     raise Stopped(number)
 
 
 def heed_signals() -> None:
     """Makes Ctrl-C, SIGTERM and a terminal that is closed come as Stopped."""
-    for number in (signal.SIGINT, signal.SIGTERM, signal.SIGHUP):
+    for number in ENDS:
         signal.signal(number, stop)
 
 

@@ -11,7 +11,7 @@ import time
 from typing import Dict, List, NamedTuple, Optional
 
 # So long a test waits at most for what it looks for, in seconds. It says nothing of how fast anything is.
-PATIENCE = 120
+PATIENCE = 600
 INTERRUPT, END_OF_FILE = b"\x03", b"\x04"
 
 

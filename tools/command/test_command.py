@@ -9,8 +9,9 @@ import signal
 import subprocess
 import sys
 import tempfile
+import time
 import unittest
-from typing import Dict, List, Optional
+from typing import Dict, List, Optional, Set
 from xml.etree import ElementTree
 
 sys.dont_write_bytecode = True
@@ -58,6 +59,20 @@ def text_of(path: str) -> str:
 def due_refusal() -> str:
     """The line that the refused scenario gets, by its own first line."""
     return text_of(BAD).split("\n")[0].partition(": ")[2]
+
+
+def pieces_of(number: int) -> List[str]:
+    """The pieces of a hunt that go on: processes that it has started with the word `seeds`."""
+    found = []
+    with open(f"/proc/{number}/task/{number}/children", encoding="ascii") as file:
+        children = file.read().split()
+    for child in children:
+        try:
+            with open(f"/proc/{child}/cmdline", "rb") as words:
+                found += [child] * (b"seeds" in words.read().split(b"\0"))
+        except OSError:  # (it is gone)
+            pass
+    return found
 
 
 class Built(unittest.TestCase):
@@ -152,6 +167,11 @@ class Wrong(Built):
                 self.assertEqual(done.returncode, 2)
                 self.assertIn(why, done.stderr)
 
+    def test_both_outputs_in_one_file(self) -> None:
+        words = ["./kmdfsim", "ordr"]
+        both = subprocess.run(words, cwd=ROOT, stdin=subprocess.DEVNULL, stdout=subprocess.PIPE, stderr=subprocess.STDOUT, text=True, check=False)
+        self.assertIn("did you mean `order`?", both.stdout)
+
     def test_usage_stays(self) -> None:
         self.assertTrue(called("kmdfsim ordr").stdout.startswith("usage: kmdfsim check | order"))
 
@@ -219,6 +239,14 @@ class Refused(Built):
         done = called("kmdfsim order", text_of(BAD))
         self.assertEqual((done.returncode, done.stdout), (10, f"{due_refusal()}\n"))
         self.assertIn("the text is no scenario (status 10)", done.stderr)
+
+    def test_pipe_into_a_file(self) -> None:
+        with tempfile.TemporaryFile("w+") as file:
+            file.write("before\n")
+            file.flush()
+            done = subprocess.run(["./kmdfsim", "order"], cwd=ROOT, input=text_of(BAD), stdout=file, stderr=subprocess.PIPE, text=True, check=False)
+            file.seek(0)
+            self.assertEqual((file.read(), done.stderr), (f"before\n{due_refusal()}\n", f"kmdfsim: {due_refusal()}\n"))
 
     def test_where_it_is_seen_it_is_there_once(self) -> None:
         with open(os.path.join(ROOT, BAD), "rb") as file:
@@ -337,6 +365,25 @@ class Hunts(Built):
             table = tables.read(seen.output)
             self.assertEqual((seen.status, seen.output), (status, self.due(table)))
             self.assertIn(f"stopped: the table is of {table.count} seeds of the 4000000000", seen.screen)
+
+    def test_stopped_over_standard_input(self) -> None:
+        words = ["./kmdfhunt", "seeds", "0", "4000000000"]
+        with open(os.path.join(ROOT, BUG), "rb") as file, subprocess.Popen(words, cwd=ROOT, stdin=file, stdout=subprocess.PIPE, stderr=subprocess.DEVNULL, text=True) as hunt:
+            pieces: Set[str] = set()
+            while len(pieces) < 3 and hunt.poll() is None:
+                pieces.update(pieces_of(hunt.pid))
+                time.sleep(0.01)
+            for _ in range(2):  # (as `timeout` does)
+                hunt.send_signal(signal.SIGTERM)
+            table = hunt.communicate()[0]
+        self.assertEqual((hunt.returncode, table), (143, self.due(tables.read(table))))
+
+    def test_full(self) -> None:
+        for line in (f"seeds 0 2000 {BUG}", "seeds 0 2000", f"explain 10 {BUG}", "--help"):
+            with open("/dev/full", "wb") as full, open(os.path.join(ROOT, BUG), "rb") as file:
+                done = subprocess.run(["./kmdfhunt", *line.split()], cwd=ROOT, stdin=file, stdout=full, stderr=subprocess.PIPE, text=True, check=False)
+            self.assertEqual(done.returncode, 13, line)
+            self.assertNotIn("Traceback", done.stderr)
 
     def test_jobs(self) -> None:
         words = [sys.executable, "-c", "import os; print(len(os.sched_getaffinity(0)))"]
