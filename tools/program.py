@@ -157,10 +157,12 @@ class Program:
 
     def is_proved(self, when: float) -> bool:
         """Whether a proved program of these sources is here, or was kept by another clone, which then is put in its place; it is noted."""
+        folder = self.kept()
+        if not os.path.exists(self.path(self.name)) and not (folder and os.path.isdir(folder)):
+            return False
         paths = self.sources()
         checksum = self.checksum(paths)
         if not self.is_made_of(checksum) and not self.is_left_by_gate(paths):
-            folder = self.kept()
             if not folder or not os.access(os.path.join(folder, checksum), os.X_OK):
                 return False
             self.install(os.path.join(folder, checksum))

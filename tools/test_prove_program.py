@@ -8,11 +8,16 @@ import os
 import shutil
 import signal
 import subprocess
+import sys
 import tempfile
 import time
+import types
 import unittest
 
 ROOT = os.path.dirname(os.path.dirname(os.path.abspath(__file__)))
+sys.path.insert(0, os.path.join(ROOT, "tools"))
+import prove_program
+
 CRATES = "# the crates\nlow:\nmid: low std_like\nlaw: low\nkmdfsim: mid\n"
 # A made `rt ci`: notes that it was called, makes out/ of each crate, and says what the kit says. It proves no crate with a
 # file `src/wrong.rt`, and waits in one with a file `src/slow.rt`.
@@ -155,6 +160,23 @@ class Failing(Tree):
         self.assertEqual([name for name in os.listdir(self.top) if name.startswith("kmdfsim-proving")], [])
         os.remove(os.path.join(self.top, "crates/mid/src/slow.rt"))
         self.assertEqual(self.call()[:2], (0, "one\n"))
+
+
+class HowLongItTakes(unittest.TestCase):
+    def test_what_is_left_goes_by_the_pace_so_far(self):
+        """A crate counts as its lines and 200 more. One of 300 took 6 seconds; two of 300 and 400 wait for it, of which the second stands on
+        the first: so they take 6 and 8 seconds, one after the other on any number of processors."""
+        with tempfile.TemporaryDirectory() as room:
+            for name, lines in (("low", 100), ("mid", 100), ("high", 200)):
+                os.makedirs(os.path.join(room, "crates", name))
+                with open(os.path.join(room, "crates", name, "lib.rt"), "w", encoding="ascii") as file:
+                    file.write("\n" * lines)
+            program = types.SimpleNamespace(needs={"low": [], "mid": ["low"], "high": ["mid"]})
+            progress = prove_program.Progress(room, program)
+            self.assertIsNone(progress.left())
+            progress.first["low"], progress.ended["low"] = 1.0, 7.0
+            progress.proved.add("low")
+            self.assertAlmostEqual(progress.left(), 14.0)
 
 
 class BesideReleases(Tree):
