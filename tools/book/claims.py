@@ -5,10 +5,11 @@ from pathlib import Path
 from typing import Dict, Iterable, List, NamedTuple, Optional
 
 from book.names import At, Names
-from book.repository import Lost
+from book.repository import Lost, Repository
 from book.rules import Found
 from book.sources import Item, text_of
 
+SPECS = "spec_"
 ROW = re.compile(r"^\| (\d+) \| (.*?) \| (.*?) \| (.*?) \|$", re.M)
 NAMED = re.compile(r"((?:`\w+`(?:,| and)? )+)of `(\w+)`(?:: `(\w+)`)?")
 LISTED = re.compile(r"^\| (`\w+`(?:, `\w+`)*) \|", re.M)
@@ -63,6 +64,12 @@ def differences(reached: Iterable[At], page: Path) -> List[str]:
     return [f"{page.name} doesn't list {crate}, of which the promises need a definition" for crate in needed if crate not in told] + [
         f"{page.name} lists {crate}, of which the promises need no definition" for crate in told if crate not in needed
     ]
+
+
+def leaks(repository: Repository, page: Path) -> List[str]:
+    """The crates of definitions alone (`spec_`) that stand on what the page doesn't list."""
+    told = listed(page)
+    return [f"{crate} uses {one}, which {page.name} doesn't list" for crate in told if crate.startswith(SPECS) for one in repository.uses[crate] if one not in told]
 
 
 def chain(claims: List[Claim], name: str) -> List[List[At]]:
