@@ -11,7 +11,7 @@ use Rattle.wdf_base.specs.declared.object.Mark.TheVariants as marks
 use Rattle.wdf_base.specs.declared.object.Place.{Place}
 use Rattle.wdf_base.specs.declared.object.Place.TheVariants as place
 use Rattle.wdf_base.specs.declared.object.RequestInfo.{RequestInfo}
-use Rattle.wdf_base.specs.Places.{is_marked, is_owned, is_returning_to, is_sent}
+use Rattle.wdf_base.specs.Places.{is_marked, is_owned, is_returning_from, is_sent}
 use Rattle.wdf_model.specs.declared.enums.Mode.TheVariants as mode
 use Rattle.wdf_model.specs.declared.entries.Request.{Request}
 use Rattle.wdf_model.specs.Plans.{managed_queues, queues_of}
@@ -147,7 +147,7 @@ all_withdrawn {A} plan q (r ∷ rs) S all =
 
 all_returning : {A : Type 0} (qs : List ℕ) (S : State A) → AllSane S.requests → AllSane (fold close_returning S qs).requests
 all_returning [] S all = all
-all_returning (q ∷ qs) S all = all_returning qs (close_returning S q) (all_close S.requests (is_returning_to q) refl all)
+all_returning (q ∷ qs) S all = all_returning qs (close_returning S q) (all_close S.requests (is_returning_from q) refl all)
 
 all_closed : {A : Type 0} (qs : List ℕ) (S : State A) → AllSane S.requests → AllSane (fold close_queue S qs).requests
 all_closed [] S all = all

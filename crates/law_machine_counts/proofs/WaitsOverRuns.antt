@@ -13,7 +13,7 @@ use Rattle.wdf_base.specs.declared.call.Call.{Call}
 use Rattle.wdf_base.specs.declared.call.Callback.TheVariants as callback
 use Rattle.wdf_base.specs.declared.call.CallKind.{CallKind}
 use Rattle.wdf_base.specs.declared.call.CallKind.TheVariants as call
-use Rattle.wdf_base.specs.Places.{is_queued_in, is_returning_to}
+use Rattle.wdf_base.specs.Places.{is_queued_in, is_returning_from}
 use Rattle.wdf_model.specs.declared.enums.Mode.TheVariants as mode
 use Rattle.wdf_model.specs.declared.entries.Request.{Request}
 use Rattle.wdf_model.specs.Tables.{entry, flag, put}
@@ -53,17 +53,17 @@ any_put p blank [] (suc id) new none old = rw none (any_put p blank [] id new no
 any_put p blank (x ∷ xs) zero new none old = rw old (or_turned (p new) (list_any p xs))
 any_put p blank (x ∷ xs) (suc id) new none old = ap (λ b. p x || b) (any_put p blank xs id new none old) ∙ or_together (p x) (list_any p xs) (p new)
 
-returned_by : (q : ℕ) (a b : Bool) → is_returning_to q (if a && b then place.Returning (record { 0 = q }) else place.Closing status.Cancelled) ≡ (a && b)
+returned_by : (q : ℕ) (a b : Bool) → is_returning_from q (if a && b then place.Returning (record { 0 = q }) else place.Closing status.Cancelled) ≡ (a && b)
 returned_by q true true = equal q q refl
 returned_by q true false = refl
 returned_by q false b = refl
 
-queued_stays : (q p : ℕ) (x : Place) → is_queued_in q x ≡ true → is_returning_to p x ≡ false
+queued_stays : (q p : ℕ) (x : Place) → is_queued_in q x ≡ true → is_returning_from p x ≡ false
 queued_stays q p (place.Returning r) h = absurd (let z : ⊥ = cc in z)
 queued_stays q p _ h = refl
 
 abbrev returning : ℕ → Request → Bool
-returning q r = is_returning_to q r.place
+returning q r = is_returning_from q r.place
 
 abbrev received : {A : Type 0} → State A → ℕ → Bool
 received S r = (info_of S.requests r).received
@@ -72,14 +72,14 @@ received S r = (info_of S.requests r).received
 one_withdrawn : {A : Type 0} (plan : Plan) (q : ℕ) (S : State A) (r : ℕ) → is_queued_in q (place_of S.requests r) ≡ true
     → list_any (returning q) (withdraw plan q S r).requests.all ≡ (list_any (returning q) S.requests.all || (received S r && returns_to plan S q))
 one_withdrawn plan q S r queued =
-    let was : is_returning_to q (place_of S.requests r) ≡ false = queued_stays q q (place_of S.requests r) queued in
+    let was : is_returning_from q (place_of S.requests r) ≡ false = queued_stays q q (place_of S.requests r) queued in
     let old : Request = cancelled (request_of S.requests r) in
     let here : entry no_request (put no_request S.requests.all r old) r ≡ old = entry_put_same no_request S.requests.all r old in
     let first : list_any (returning q) (put no_request S.requests.all r old) ≡ list_any (returning q) S.requests.all =
     any_put (returning q) no_request S.requests.all r old refl was ∙ ap (λ b. list_any (returning q) S.requests.all || b) was ∙ or-false (list_any (returning q) S.requests.all) in
     let p : Place = withdrawn_place plan S q r in
     any_put (returning q) no_request (put no_request S.requests.all r old) r (moved p (entry no_request (put no_request S.requests.all r old) r)) refl (ap (returning q) here ∙ was)
-    ∙ ap (λ b. b || is_returning_to q p) first
+    ∙ ap (λ b. b || is_returning_from q p) first
     ∙ ap (λ b. list_any (returning q) S.requests.all || b) (returned_by q (received S r) (returns_to plan S q))
 
 others_stay : {A : Type 0} (plan : Plan) (q : ℕ) (S : State A) (r x : ℕ) → x ≢ r → request_of (withdraw plan q S r).requests x ≡ request_of S.requests x

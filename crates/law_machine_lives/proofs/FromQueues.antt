@@ -42,7 +42,7 @@ use Rattle.law_machine_counts.proofs.HeldMoves.{Placed}
 use Rattle.law_machine_lives.proofs.Stays.{asks_all, given, given_if}
 use Rattle.wdf_base.specs.Meaning.{Meaning}
 use Rattle.wdf_base.specs.Lives.{is_live}
-use Rattle.wdf_base.specs.Places.{is_marked, is_owned, is_queued_in, is_returning_to, is_sent}
+use Rattle.wdf_base.specs.Places.{is_marked, is_owned, is_queued_in, is_returning_from, is_sent}
 use Rattle.wdf_model.specs.rules.Ready.{ready, state_after}
 use Rattle.wdf_model.proofs.Runs.{run_opens}
 use Rattle.law_machine_base.proofs.LawsOverRuns.{history_now}
@@ -90,7 +90,7 @@ from_queued q (place.Closing s) h = absurd (let z : ⊥ = cc in z)
 from_queued q place.Done h = absurd (let z : ⊥ = cc in z)
 from_queued q _ h = refl
 
-from_returning : (q : ℕ) (p : Place) → is_returning_to q p ≡ true → may_move p place.Owned ≡ true
+from_returning : (q : ℕ) (p : Place) → is_returning_from q p ≡ true → may_move p place.Owned ≡ true
 from_returning q (place.Closing s) h = absurd (let z : ⊥ = cc in z)
 from_returning q place.Done h = absurd (let z : ⊥ = cc in z)
 from_returning q _ h = refl
@@ -237,7 +237,7 @@ module _ (plan : Plan) (Suits : ℕ → ℕ → RequestForm → Type 0) where
   queue_suits q (place.Queued x) d f h k = subst (λ y. Suits y d f) (eqb-true x.0 q h) k
   queue_suits q _ d f h k = absurd (let z : ⊥ = cc in z)
 
-  returning_by : (q : ℕ) (p : Place) (d : ℕ) (f : RequestForm) → is_returning_to q p ≡ true → PlaceFits p d f → Suits q d f × (declares plan callback.EvtIoCanceledOnQueue q ≡ true)
+  returning_by : (q : ℕ) (p : Place) (d : ℕ) (f : RequestForm) → is_returning_from q p ≡ true → PlaceFits p d f → Suits q d f × (declares plan callback.EvtIoCanceledOnQueue q ≡ true)
   returning_by q (place.Returning x) d f h k = subst (λ y. Suits y d f × (declares plan callback.EvtIoCanceledOnQueue y ≡ true)) (eqb-true x.0 q h) k
   returning_by q _ d f h k = absurd (let z : ⊥ = cc in z)
 
@@ -245,7 +245,7 @@ module _ (plan : Plan) (Suits : ℕ → ℕ → RequestForm → Type 0) where
   pub queued_suits : (R : Requests) (q r : ℕ) → AllSuited R → is_queued_in q (place_of R r) ≡ true → SuitsIn R q r
   queued_suits R q r k h = queue_suits q (place_of R r) (info_of R r).device.0 (info_of R r).form h (k r).at
 
-  pub returning_suits : (R : Requests) (q r : ℕ) → AllSuited R → is_returning_to q (place_of R r) ≡ true → SuitsIn R q r × (declares plan callback.EvtIoCanceledOnQueue q ≡ true)
+  pub returning_suits : (R : Requests) (q r : ℕ) → AllSuited R → is_returning_from q (place_of R r) ≡ true → SuitsIn R q r × (declares plan callback.EvtIoCanceledOnQueue q ≡ true)
   returning_suits R q r k h = returning_by q (place_of R r) (info_of R r).device.0 (info_of R r).form h (k r).at
 
   pub waiting_suits : {A : Type 0} (S : State A) (q r : ℕ) → Placed S → AllSuited S.requests → 1 ≤ count_by (λ x. x == r) (waiting_in S.queues q) → SuitsIn S.requests q r
@@ -289,7 +289,7 @@ module _ (plan : Plan) (Suits : ℕ → ℕ → RequestForm → Type 0) where
 
   all_returning : {A : Type 0} (qs : List ℕ) (S : State A) → AllSuited S.requests → AllSuited (fold close_returning S qs).requests
   all_returning [] S k = k
-  all_returning (q ∷ qs) S k = all_returning qs (close_returning S q) (all_close S.requests (is_returning_to q) refl k)
+  all_returning (q ∷ qs) S k = all_returning qs (close_returning S q) (all_close S.requests (is_returning_from q) refl k)
 
   all_closed : {A : Type 0} (qs : List ℕ) (S : State A) → AllSuited S.requests → AllSuited (fold close_queue S qs).requests
   all_closed [] S k = k

@@ -7,7 +7,7 @@ use Rattle.wdf_base.specs.declared.object.Place.TheVariants as place
 use Rattle.wdf_base.specs.declared.object.RequestInfo.{RequestInfo}
 use Rattle.wdf_base.specs.declared.value.Status.TheVariants as status
 use Rattle.wdf_base.specs.declared.event.Event.{Event}
-use Rattle.wdf_base.specs.Places.{is_done, is_marked, is_returning_to}
+use Rattle.wdf_base.specs.Places.{is_done, is_marked, is_returning_from}
 use Rattle.wdf_model.specs.declared.enums.Mode.TheVariants as mode
 use Rattle.wdf_model.specs.declared.entries.Request.{Request}
 use Rattle.wdf_model.specs.Plans.{managed_queues, queues_of}
@@ -109,7 +109,7 @@ closed_all here R off x h =
 
 all_returning : {A : Type 0} (qs : List ℕ) (S : State A) → WasFinished S.requests (fold close_returning S qs).requests
 all_returning [] S = λ x h. h
-all_returning (q ∷ qs) S = was_then S.requests (close_returning S q).requests (fold close_returning (close_returning S q) qs).requests (closed_all (is_returning_to q) S.requests refl) (all_returning qs (close_returning S q))
+all_returning (q ∷ qs) S = was_then S.requests (close_returning S q).requests (fold close_returning (close_returning S q) qs).requests (closed_all (is_returning_from q) S.requests refl) (all_returning qs (close_returning S q))
 
 all_closed : {A : Type 0} (qs : List ℕ) (S : State A) → WasFinished S.requests (fold close_queue S qs).requests
 all_closed [] S = λ x h. h

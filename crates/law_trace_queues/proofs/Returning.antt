@@ -15,7 +15,7 @@ use Rattle.wdf_base.specs.declared.object.Place.{Place}
 use Rattle.wdf_base.specs.declared.object.Place.TheVariants as place
 use Rattle.wdf_base.specs.declared.object.RequestInfo.{RequestInfo}
 use Rattle.wdf_base.specs.declared.call.Callback.TheVariants as callback
-use Rattle.wdf_base.specs.Places.{is_marked, is_returning_to}
+use Rattle.wdf_base.specs.Places.{is_marked, is_returning_from}
 use Rattle.wdf_model.specs.declared.enums.Mode.TheVariants as mode
 use Rattle.wdf_model.specs.declared.entries.DevicePower.{DevicePower}
 use Rattle.wdf_model.specs.declared.entries.Request.{Request}
@@ -52,7 +52,7 @@ powered_by plan D q = not (is_managed plan q) || (entry no_device_power D (devic
 
 -- each queue to which a request returns has power
 abbrev pub Backed : Plan → List DevicePower → Requests → Type 0
-Backed plan D R = (x q : ℕ) → is_returning_to q (place_of R x) ≡ true → powered_by plan D q ≡ true
+Backed plan D R = (x q : ℕ) → is_returning_from q (place_of R x) ≡ true → powered_by plan D q ≡ true
 
 abbrev devices_of : {A : Type 0} → State A → List DevicePower
 devices_of S = S.power.devices
@@ -66,7 +66,7 @@ given_devices S r = given_by S _ (is_with_driver S r) (released_devices S.power 
 
 module _ (plan : Plan) (D : List DevicePower) where
   abbrev At : Place → Type 0
-  At p = (q : ℕ) → is_returning_to q p ≡ true → powered_by plan D q ≡ true
+  At p = (q : ℕ) → is_returning_from q p ≡ true → powered_by plan D q ≡ true
 
   -- ---- one request changes
 
@@ -151,7 +151,7 @@ module _ (plan : Plan) (D : List DevicePower) where
 
   all_returning : {A : Type 0} (qs : List ℕ) (S : State A) → Backed plan D S.requests → Backed plan D (fold close_returning S qs).requests
   all_returning [] S k = k
-  all_returning (q ∷ qs) S k = all_returning qs (close_returning S q) (all_close S.requests (is_returning_to q) refl k)
+  all_returning (q ∷ qs) S k = all_returning qs (close_returning S q) (all_close S.requests (is_returning_from q) refl k)
 
   all_closed : {A : Type 0} (qs : List ℕ) (S : State A) → Backed plan D S.requests → Backed plan D (fold close_queue S qs).requests
   all_closed [] S k = k
@@ -214,28 +214,28 @@ backed_more plan R D E more k x q h = by_managed (is_managed plan q) refl (k x q
 
 -- ---- `queues_down`
 
-was_closed : (q : ℕ) (e : Request) (here : Place → Bool) (b : Bool) → here e.place ≡ b → is_returning_to q (closed_at here e).place ≡ true → (b ≡ false) × (is_returning_to q e.place ≡ true)
-was_closed q e here true h k = absurd (let t : is_returning_to q (place.Closing status.Cancelled) ≡ true = rw h at k in let z : ⊥ = cc in z)
+was_closed : (q : ℕ) (e : Request) (here : Place → Bool) (b : Bool) → here e.place ≡ b → is_returning_from q (closed_at here e).place ≡ true → (b ≡ false) × (is_returning_from q e.place ≡ true)
+was_closed q e here true h k = absurd (let t : is_returning_from q (place.Closing status.Cancelled) ≡ true = rw h at k in let z : ⊥ = cc in z)
 was_closed q e here false h k = (refl, rw h at k)
 
 -- what returns after a queue's returning requests are closed returned before, to another queue
-still_returning : (R : Requests) (p q x : ℕ) → is_returning_to q (place_of (requests.close_returning R p) x) ≡ true → (is_returning_to p (place_of R x) ≡ false) × (is_returning_to q (place_of R x) ≡ true)
+still_returning : (R : Requests) (p q x : ℕ) → is_returning_from q (place_of (requests.close_returning R p) x) ≡ true → (is_returning_from p (place_of R x) ≡ false) × (is_returning_from q (place_of R x) ≡ true)
 still_returning R p q x h =
-    was_closed q (request_of R x) (is_returning_to p) (is_returning_to p (place_of R x)) refl
-    (subst (λ (y : Request). is_returning_to q y.place ≡ true) (entry_map no_request R.all (closed_at (is_returning_to p)) x refl) h)
+    was_closed q (request_of R x) (is_returning_from p) (is_returning_from p (place_of R x)) refl
+    (subst (λ (y : Request). is_returning_from q y.place ≡ true) (entry_map no_request R.all (closed_at (is_returning_from p)) x refl) h)
 
-returned_before : {A : Type 0} (qs : List ℕ) (S : State A) (q x : ℕ) → is_returning_to q (place_of (fold close_returning S qs).requests x) ≡ true → is_returning_to q (place_of S.requests x) ≡ true
+returned_before : {A : Type 0} (qs : List ℕ) (S : State A) (q x : ℕ) → is_returning_from q (place_of (fold close_returning S qs).requests x) ≡ true → is_returning_from q (place_of S.requests x) ≡ true
 returned_before [] S q x h = h
 returned_before (p ∷ qs) S q x h = (still_returning S.requests p q x (returned_before qs (close_returning S p) q x h)).1
 
-none_returns : {A : Type 0} (qs : List ℕ) (S : State A) (q x : ℕ) → contains q qs ≡ true → is_returning_to q (place_of (fold close_returning S qs).requests x) ≡ true → ⊥
+none_returns : {A : Type 0} (qs : List ℕ) (S : State A) (q x : ℕ) → contains q qs ≡ true → is_returning_from q (place_of (fold close_returning S qs).requests x) ≡ true → ⊥
 none_returns [] S q x there h = let z : ⊥ = cc in z
 none_returns (p ∷ qs) S q x there h = by_first (p == q) refl there (λ t. none_returns qs (close_returning S p) q x t h)
   where
     by_first : (b : Bool) → (p == q) ≡ b → (b || contains q qs) ≡ true → (contains q qs ≡ true → ⊥) → ⊥
     by_first true e t rest =
         let k = still_returning S.requests p q x (returned_before qs (close_returning S p) q x h) in
-        let other : is_returning_to q (place_of S.requests x) ≡ false = subst (λ i. is_returning_to i (place_of S.requests x) ≡ false) (eqb-true p q e) k.0 in
+        let other : is_returning_from q (place_of S.requests x) ≡ false = subst (λ i. is_returning_from i (place_of S.requests x) ≡ false) (eqb-true p q e) k.0 in
         let yes = k.1 in
         let z : ⊥ = cc in z
     by_first false e t rest = rest t

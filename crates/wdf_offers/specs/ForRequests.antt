@@ -1,7 +1,7 @@
 -- Callbacks that are due for many requests of a queue at once: which requests are counted for the queue, and what they all
 -- wait for. (own)
 use Rattle.std.specs.Prelude.{ℕ, ◌≡◌, Bool, true, ◌&&◌, List, filter, Option, Some, None}
-use Rattle.wdf_base.specs.Places.{is_returning_to}
+use Rattle.wdf_base.specs.Places.{is_returning_from}
 use Rattle.wdf_base.specs.declared.call.Callback.{Callback}
 use Rattle.wdf_base.specs.declared.plan.Plan.{Plan}
 use Rattle.wdf_base.specs.declared.rank.Rank.{Rank}
@@ -59,7 +59,7 @@ due_for plan S h q = filter (is_due_for plan S h q) (ids_of S.requests.all)
 -- a request is counted for a queue
 abbrev pub is_counted : {A : Type 0} → Herd → State A → ℕ → ℕ → Bool
 is_counted herd.Cancel S q r = is_at q (due_queue (request_of S.requests r))
-is_counted herd.Return S q r = is_returning_to q (place_of S.requests r)
+is_counted herd.Return S q r = is_returning_from q (place_of S.requests r)
 is_counted herd.Stop S q r = is_at q (unasked_queue (holding_of S.power r))
 is_counted herd.Resume S q r = is_at q (resuming_queue (holding_of S.power r))
 

@@ -1,6 +1,6 @@
 -- The requests for which a callback of a queue is due, as far as the requests alone say.
 use Rattle.std.specs.Prelude.{ℕ, nat_lt, Bool, List, filter, is_some, length}
-use Rattle.wdf_base.specs.Places.{is_returning_to}
+use Rattle.wdf_base.specs.Places.{is_returning_from}
 use Rattle.wdf_model.specs.Tables.{ids_of}
 use Rattle.wdf_model.specs.parts.Requests.{Requests, place_of, request_of}
 use Rattle.wdf_maps.specs.Counts.{is_at}
@@ -16,7 +16,7 @@ returning_requests R = filter (is_back R) (ids_of R.all)
 
 -- of those that are Returning to queue q
 abbrev pub returning_to : Requests → ℕ → List ℕ
-returning_to R q = filter (λ r. is_returning_to q (place_of R r)) (ids_of R.all)
+returning_to R q = filter (λ r. is_returning_from q (place_of R r)) (ids_of R.all)
 
 -- of those that the driver has from queue q, and for which EvtRequestCancel is due
 abbrev pub due_from : Requests → ℕ → List ℕ

@@ -1,6 +1,6 @@
 ghost use Rattle.std.specs.Prelude.{◌≡◌, ◌<◌, ◌≤◌, ◌==◌, [], IfOk, MatchOption, find, length, max, nat_le, option_map, slice_get, vec_capacity};
 ghost use Rattle.std.specs.List.{list_any};
-ghost use Rattle.wdf_base.specs.Places.{is_returning_to, is_sent_to};
+ghost use Rattle.wdf_base.specs.Places.{is_returning_from, is_sent_to};
 ghost use Rattle.wdf_model.specs.Tables.{put};
 ghost use Rattle.wdf_model.specs.parts.Requests as requests;
 ghost use Rattle.wdf_model.specs.parts.Requests.{no_request};
@@ -220,7 +220,7 @@ impl Requests {
 
     /// Whether some request is Returning to a queue.
     pub fn returns_to(&self, q: ObjectId) -> bool
-        ensures { result ≡ list_any (λ r. is_returning_to q.0 r.place) self.now.all }
+        ensures { result ≡ list_any (λ r. is_returning_from q.0 r.place) self.now.all }
     {
         if q.0 < OBJECTS {
             self.returning.of(q) > 0

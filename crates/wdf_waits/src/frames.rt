@@ -1,7 +1,7 @@
 //! The lines of frames: what each waits for.
 ghost use Rattle.std.specs.Prelude.{◌≡◌, ◌∷◌, ◌++◌, []};
 ghost use Rattle.wdf_base.specs.declared.wait.Cause.TheVariants as cause;
-ghost use Rattle.wdf_base.specs.Places.{is_returning_to, is_sent_to};
+ghost use Rattle.wdf_base.specs.Places.{is_returning_from, is_sent_to};
 ghost use Rattle.wdf_model.specs.parts.Deferred.WorkItems.{is_work_queued};
 ghost use Rattle.wdf_model.specs.State as state;
 ghost use Rattle.wdf_model.specs.parts.Queues.{waiting_in};
@@ -43,7 +43,7 @@ fn by_held_or_returning<A: Agent>(
     parts: &Parts<A>,
     q: ObjectId,
 ) -> Option<Cause>
-    ensures { result ≡ waits.by_request plan.now parts.now (state.held_from parts.now q.0 ++ waits.requests_where parts.now (is_returning_to q.0)) }
+    ensures { result ≡ waits.by_request plan.now parts.now (state.held_from parts.now q.0 ++ waits.requests_where parts.now (is_returning_from q.0)) }
 {
     let held = least_held_from(plan, parts, q);
     let returning = least_returning_to(plan, parts, q);

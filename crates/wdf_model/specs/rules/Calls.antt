@@ -16,7 +16,7 @@ use Rattle.wdf_base.specs.declared.call.Call.{Call}
 use Rattle.wdf_base.specs.declared.call.CallKind.TheVariants as call
 use Rattle.wdf_base.specs.declared.call.Callback.TheVariants as callback
 use Rattle.wdf_base.specs.Lives.{is_live}
-use Rattle.wdf_base.specs.Places.{is_returning_to}
+use Rattle.wdf_base.specs.Places.{is_returning_from}
 use Rattle.wdf_model.specs.declared.enums.Mode.TheVariants as mode
 use Rattle.wdf_model.specs.declared.entries.Request.{Request}
 use Rattle.wdf_model.specs.Tables.{flag}
@@ -324,7 +324,7 @@ nothing_held S q = held_count S.queues q == 0
 
 -- no request waits for the EvtIoCanceledOnQueue of queue q
 abbrev pub nothing_returns : {A : Type 0} → State A → ℕ → Bool
-nothing_returns S q = not (list_any (λ (r : Request). is_returning_to q r.place) S.requests.all)
+nothing_returns S q = not (list_any (λ (r : Request). is_returning_from q r.place) S.requests.all)
 
 -- whether the wait of call c is over
 abbrev pub is_met : {A : Type 0} → State A → Call → Bool

@@ -33,7 +33,7 @@ impl ClosedPart {
         ensures { result ≡ is_part self place }
     {
         match self {
-            ClosedPart::Returning(q) => place.is_returning_to(q),
+            ClosedPart::Returning(q) => place.is_returning_from(q),
             ClosedPart::Whole(q) => is_in(q, place),
         }
     }
