@@ -15,7 +15,7 @@ ghost use Rattle.wdf_model.specs.Plans.{queue_of};
 ghost use Rattle.wdf_model.specs.rules.Ready.{IsRunOf, state_after};
 ghost use Rattle.law_trace_queues.specs.Agreement.{RequestsAndPowerAgree};
 
-/// At each place of every run of a resolved plan, a queue to which a request returns has power. While a resume is due for
+/// At each place of every run of a resolved plan, a queue from which a request returns has power. While a resume is due for
 /// a held request, the queues of its device are up, and the device waits at the step right after `queues_up`.
 #[tactic(auto, using(crate::proofs::Laws::agrees_at_each))]
 pub fn requests_and_power_agree<A>()

@@ -61,7 +61,7 @@ pub fn rank_ready_for<A: Agent>(
             parts.requests().place(r).is_sent_to(o) && parts.targets().routine_due(r).is_some()
         }
         Rank::Cancel => parts.requests().info(r).mark.is_due() && parts.is_held_from(o, r),
-        Rank::CanceledOnQueue => parts.requests().place(r).is_returning_to(o),
+        Rank::CanceledOnQueue => parts.requests().place(r).is_returning_from(o),
         Rank::Stop => stop_is_due(plan, parts, o, r),
         Rank::Resume => parts.power().resume_due(r) && parts.is_held_from(o, r),
         Rank::Handler => presents(plan, parts, callback, o, r),
