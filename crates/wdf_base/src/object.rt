@@ -87,7 +87,7 @@ impl Life {
 pub enum Place {
     /// In the waiting list of a queue.
     Queued(ObjectId),
-    /// Out of the waiting list of a queue, whose EvtIoCanceledOnQueue is due for it.
+    /// Returning from a queue: out of its waiting list, and its EvtIoCanceledOnQueue is due for it.
     Returning(ObjectId),
     /// To be completed by the framework with this status.
     Closing(Status),

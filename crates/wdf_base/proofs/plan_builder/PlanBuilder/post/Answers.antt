@@ -1,6 +1,6 @@
 use Rattle.std.proofs.Common.{◌≡◌, suc, ◌-◌, is_ok, arith}
-use Rattle.test_plans.proofs.PlanLaws.{post_done}
-use Rattle.test_plans.proofs.plan_builder.PlanBuilder.post.Goals as goal
+use Rattle.wdf_base.proofs.PlanBuildingLaws.{post_done}
+use Rattle.wdf_base.proofs.plan_builder.PlanBuilder.post.Goals as goal
 
 pub returns-else-agent-eq0 : goal.returns-else-agent-eq0
 returns-else-agent-eq0 c =

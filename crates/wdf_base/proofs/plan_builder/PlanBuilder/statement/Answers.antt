@@ -1,6 +1,6 @@
 use Rattle.std.proofs.Common.{is_ok}
-use Rattle.test_plans.proofs.PlanLaws.{statement_done}
-use Rattle.test_plans.proofs.plan_builder.PlanBuilder.statement.Goals as goal
+use Rattle.wdf_base.proofs.PlanBuildingLaws.{statement_done}
+use Rattle.wdf_base.proofs.plan_builder.PlanBuilder.statement.Goals as goal
 
 pub returns : goal.returns
 returns c =

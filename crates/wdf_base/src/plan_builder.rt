@@ -1,13 +1,17 @@
 ghost use Rattle.std.specs.Prelude.{◌≡◌, ◌+◌, ◌<◌, ◌≤◌, ◌^◌, ◌++◌, ◌∷◌, [], length, is_ok, IfOk, if◌then◌else◌};
 ghost use Rattle.wdf_base.specs.Plan.{posts_of, statements_of};
-ghost use Rattle.test_plans.specs.PlanParts.{with_post, with_statement};
+ghost use Rattle.wdf_base.specs.PlanBuilding.{with_post, with_statement};
 
+use crate::call::Callback;
+use crate::declared::{ClassInfo, Declared, PostLine, RegisterInfo, WhenLine};
+use crate::ids::ObjectId;
+use crate::items::Items;
+use crate::memory::Memory;
+use crate::name::Name;
+use crate::plan::Plan;
+use crate::script::{AgentInfo, ExprNode, Script, Statement};
 use std::alloc::Global;
 use std::marker::Model;
-use wdf_base::{
-    AgentInfo, Callback, ClassInfo, Declared, ExprNode, Items, Memory, Name, ObjectId, Plan,
-    PostLine, RegisterInfo, Script, Statement, WhenLine,
-};
 
 /// A plan that is being filled. A call answers [`Memory`] where memory was refused, and leaves the plan as it was.
 #[derive(Drop)]
