@@ -1,10 +1,11 @@
--- The agents of the program are the model's: each variant is the model's of the same name.
+-- The agents of the program are tied to the model's: each variant is the model's of the same name.
 use Rattle.std.proofs.Common.{◌≡◌, ◌==◌, ℕ, Bool, true, false, Option, Some, None, refl}
 use Rattle.wdf_base.specs.declared.plan.Plan.{Plan}
 use Rattle.wdf_base.specs.declared.event.Event.{Event}
 use Rattle.wdf_model.specs.Plans.{device_of_agent, is_app, target_of_agent}
 use Rattle.wdf_model.specs.agents.AnyAgent as model
-use Rattle.wdf_dev.specs.Agents.{agent_after, agent_at, agent_due, agent_next, agent_value, as_model, device_or_target}
+use Rattle.inv_meanings.specs.Tied.{IsTied}
+use Rattle.wdf_dev.specs.Agents.{agent_after, agent_at, agent_due, agent_meaning, agent_next, agent_value, as_model, device_or_target}
 use Rattle.wdf_dev.specs.declared.any.AnyAgent.{AnyAgent}
 use Rattle.wdf_dev.specs.declared.any.AnyAgent.TheVariants as agent
 
@@ -41,3 +42,27 @@ nexts _ = refl
 pub values : (a : AnyAgent) (what : ℕ) → agent_value a what ≡ model.agent_value (as_model a) what
 values (agent.PnpManager p) what = refl
 values _ what = refl
+
+-- the agent that is seen as one of the model's
+pub of_model : model.AnyAgent → AnyAgent
+of_model (model.PnpManager p) = agent.PnpManager p
+of_model (model.App p) = agent.App p
+of_model (model.Device d) = agent.Device d
+of_model (model.LowerTarget t) = agent.LowerTarget t
+
+pub there : (a : model.AnyAgent) → as_model (of_model a) ≡ a
+unfolding of_model
+there (model.PnpManager p) = refl
+there (model.App p) = refl
+there (model.Device d) = refl
+there (model.LowerTarget t) = refl
+
+pub here : (a : AnyAgent) → of_model (as_model a) ≡ a
+unfolding of_model
+here (agent.PnpManager p) = refl
+here (agent.App p) = refl
+here (agent.Device d) = refl
+here (agent.LowerTarget t) = refl
+
+pub agents_are_tied : IsTied agent_meaning model.agents
+agents_are_tied = record { seen = as_model; back = of_model; there = there; here = here; begins = begins; folds = folds; dues = dues; nexts = nexts; values = values }

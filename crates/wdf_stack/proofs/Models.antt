@@ -5,8 +5,9 @@ use Rattle.wdf_base.specs.declared.event.Event.{Event}
 use Rattle.wdf_model.specs.Plans.{target_of_agent}
 use Rattle.wdf_model.specs.agents.Chains.{connected_to}
 use Rattle.wdf_model.specs.agents.StackAgent as model
+use Rattle.inv_meanings.specs.Tied.{IsTied}
 use Rattle.wdf_dev.proofs.Models as usual
-use Rattle.wdf_stack.specs.Agents.{as_model, connector_or_usual, stack_agent_after, stack_agent_at, stack_agent_due, stack_agent_next, stack_agent_value, target_or_usual}
+use Rattle.wdf_stack.specs.Agents.{as_model, connector_or_usual, stack_agent_after, stack_agent_at, stack_agent_due, stack_agent_next, stack_agent_value, stack_meaning, target_or_usual}
 use Rattle.wdf_stack.specs.declared.agents.StackAgent.{StackAgent}
 use Rattle.wdf_stack.specs.declared.agents.StackAgent.TheVariants as agent
 
@@ -49,3 +50,24 @@ pub values : (a : StackAgent) (what : ℕ) → stack_agent_value a what ≡ mode
 values (agent.StackManager m) what = refl
 values (agent.Connector c) what = refl
 values (agent.Usual a) what = usual.values a what
+
+-- the agent that is seen as one of the model's
+of_model : model.StackAgent → StackAgent
+of_model (model.StackManager m) = agent.StackManager m
+of_model (model.Connector c) = agent.Connector c
+of_model (model.Usual a) = agent.Usual (usual.of_model a)
+
+there : (a : model.StackAgent) → as_model (of_model a) ≡ a
+unfolding of_model
+there (model.StackManager m) = refl
+there (model.Connector c) = refl
+there (model.Usual a) = ap model.Usual (usual.there a)
+
+here : (a : StackAgent) → of_model (as_model a) ≡ a
+unfolding of_model
+here (agent.StackManager m) = refl
+here (agent.Connector c) = refl
+here (agent.Usual a) = ap agent.Usual (usual.here a)
+
+pub agents_are_tied : IsTied stack_meaning model.stack_agents
+agents_are_tied = record { seen = as_model; back = of_model; there = there; here = here; begins = begins; folds = folds; dues = dues; nexts = nexts; values = values }
