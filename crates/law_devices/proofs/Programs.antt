@@ -1,9 +1,11 @@
 -- The agents of the program, of its idle runs and of its stacks have the devices of the machine's definitions.
-use Rattle.std.proofs.Common.{◌≡◌, ◌==◌, nat_lt, ℕ, Bool, true, false, ◌&&◌, Some, None, refl, ap, arith}
+use Rattle.std.proofs.Common.{◌≡◌, ◌+◌, ◌-◌, ◌==◌, nat_lt, ℕ, Bool, true, false, ◌&&◌, length, slice_get, Some, None, refl, ap, arith}
+use Rattle.std.proofs.lemmas.Bool.{lt-ltb, ltb-false}
 use Rattle.std.proofs.lemmas.Bool.Decides.{nat_tests}
+use Rattle.std.proofs.lemmas.Option.{slice_get_within}
 use Rattle.wdf_base.specs.declared.plan.Plan.{Plan}
 use Rattle.wdf_base.specs.declared.event.Event.{Event}
-use Rattle.wdf_model.specs.Plans.{device_of_agent, first_device_agent, is_app}
+use Rattle.wdf_model.specs.Plans.{device_of_agent, devices_of, first_device_agent, is_app, target_of_agent}
 use Rattle.wdf_model.specs.agents.Device.{Device, device_after, device_at, device_due, device_value}
 use Rattle.wdf_dev.specs.Agents as usual
 use Rattle.wdf_dev.specs.declared.any.AnyAgent.{AnyAgent}
@@ -74,19 +76,32 @@ idle_have = record { begins = idle_begins; hears = idle_hears; posts = idle_post
 
 -- ---- the agents of stacks
 
-stack_begins : (plan : Plan) (k d : ℕ) → device_of_agent plan k ≡ Some d → stack_device (stacks.agent_at plan k) ≡ Some (device_at plan d k)
-stack_begins plan k d own = let l = late plan k d own in rw (l.0, l.1, own) refl
+-- a device's agent is no target's
+no_target_by : (plan : Plan) (k d : ℕ) (late : Bool) → nat_lt k (first_device_agent plan) ≡ late → device_of_agent plan k ≡ Some d → target_of_agent plan k ≡ None
+no_target_by plan k d true e h = absurd (let n : None ≡ Some d = rw e at h in let z : ⊥ = cc in z)
+no_target_by plan k d false e h =
+    let from = ltb-false k (first_device_agent plan) e in
+    let at : slice_get (devices_of plan) (k - first_device_agent plan) ≡ Some d = rw e at h in
+    let less = slice_get_within (devices_of plan) (k - first_device_agent plan) d at in
+    let early : nat_lt k (first_device_agent plan + length (devices_of plan)) ≡ true = lt-ltb k (first_device_agent plan + length (devices_of plan)) (omega (arith, from, less)) in
+    rw early refl
 
-stack_hears : (a : StackAgent) (h : Device) (e : Event) → stack_device a ≡ Some h → stack_device (stacks.agent_after a e) ≡ Some (device_after h e)
-stack_hears (stack.Device g) h e is = ap (λ x. Some (device_after x e)) (let same : g ≡ h = cc in same)
+stack_begins : (plan : Plan) (k d : ℕ) → device_of_agent plan k ≡ Some d → stack_device (stacks.stack_agent_at plan k) ≡ Some (device_at plan d k)
+stack_begins plan k d own =
+    let l = late plan k d own in
+    let none : target_of_agent plan k ≡ None = no_target_by plan k d (nat_lt k (first_device_agent plan)) refl own in
+    rw (l.0, none) (usual_begins plan k d own)
+
+stack_hears : (a : StackAgent) (h : Device) (e : Event) → stack_device a ≡ Some h → stack_device (stacks.stack_agent_after a e) ≡ Some (device_after h e)
+stack_hears (stack.Usual a) h e is = usual_hears a h e is
 stack_hears _ h e is = absurd (let z : ⊥ = cc in z)
 
-stack_posts : (a : StackAgent) (h : Device) → stack_device a ≡ Some h → stacks.agent_due a ≡ device_due h
-stack_posts (stack.Device g) h is = ap device_due (let same : g ≡ h = cc in same)
+stack_posts : (a : StackAgent) (h : Device) → stack_device a ≡ Some h → stacks.stack_agent_due a ≡ device_due h
+stack_posts (stack.Usual a) h is = usual_posts a h is
 stack_posts _ h is = absurd (let z : ⊥ = cc in z)
 
-stack_shows : (a : StackAgent) (h : Device) (what : ℕ) → stack_device a ≡ Some h → stacks.agent_value a what ≡ device_value h what
-stack_shows (stack.Device g) h what is = ap (λ x. device_value x what) (let same : g ≡ h = cc in same)
+stack_shows : (a : StackAgent) (h : Device) (what : ℕ) → stack_device a ≡ Some h → stacks.stack_agent_value a what ≡ device_value h what
+stack_shows (stack.Usual a) h what is = usual_shows a h what is
 stack_shows _ h what is = absurd (let z : ⊥ = cc in z)
 
 pub stack_have : HasDevices stacks.stack_meaning stack_device

@@ -32,5 +32,5 @@ idle_device _ = None
 
 -- the device that an agent of `stack` is
 abbrev pub stack_device : StackAgent → Option Device
-stack_device (stack.Device h) = Some h
+stack_device (stack.Usual a) = usual_device a
 stack_device _ = None

@@ -23,7 +23,7 @@ use Rattle.wdf_model.specs.parts.Queues.{waiting_in}
 use Rattle.wdf_model.specs.parts.Queues as queues
 use Rattle.wdf_model.specs.parts.Control as control
 use Rattle.wdf_model.specs.parts.Targets.{is_undone, routine_due}
-use Rattle.wdf_model.specs.State.{State, is_with_driver, returns_to, withdrawn_place}
+use Rattle.wdf_model.specs.State.{State, is_with_driver, returns_from, withdrawn_place}
 use Rattle.wdf_model.specs.declared.deed.Deed.{Deed}
 use Rattle.wdf_model.specs.declared.deed.Deed.TheVariants.{MakeRequest, Arrive, AskDeletion, EndLife, Present, Receive, Requeue, Forward, GiveBack, Withdraw, MarkRequest, UnmarkRequest, CancelRequest, TakeCancel, SendRequest, FinishSending, ComeBack, CompleteRequest, PurgeQueue, CloseReturning, CloseDevice}
 use Rattle.wdf_model.specs.rules.Deeds.{ask_objects, close_queue, close_returning, do_deed, enter_if_queued, give_up, give_up_if, queued, withdraw}
@@ -298,7 +298,7 @@ changed_loose R r f h y l = elim (one_or_two y r) [
 ]
 
 withdrawn_loose : {A : Type 0} (plan : Plan) (S : State A) (q r : ℕ) → (is_owned (withdrawn_place plan S q r) ≡ false) × (is_done (withdrawn_place plan S q r) ≡ false)
-withdrawn_loose plan S q r = elim (cases_Bool ((info_of S.requests r).received && returns_to plan S q)) [
+withdrawn_loose plan S q r = elim (cases_Bool ((info_of S.requests r).received && returns_from plan S q)) [
   | inl e ↦ rw e (refl, refl)
   | inr e ↦ rw e (refl, refl)
 ]

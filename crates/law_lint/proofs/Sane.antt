@@ -23,7 +23,7 @@ use Rattle.wdf_model.specs.parts.Queues as queues
 use Rattle.wdf_model.specs.parts.Tree as tree
 use Rattle.wdf_model.specs.parts.Control as control
 use Rattle.wdf_model.specs.parts.Targets.{is_forgotten, is_undone}
-use Rattle.wdf_model.specs.State.{State, returns_to, withdrawn_place}
+use Rattle.wdf_model.specs.State.{State, returns_from, withdrawn_place}
 use Rattle.wdf_model.specs.declared.deed.Deed.{Deed}
 use Rattle.wdf_model.specs.declared.deed.Deed.TheVariants.{MakeRequest, Arrive, AskDeletion, EndLife, Present, Receive, Requeue, Forward, GiveBack, Withdraw, MarkRequest, UnmarkRequest, CancelRequest, TakeCancel, SendRequest, FinishSending, ComeBack, CompleteRequest, PurgeQueue, CloseReturning, CloseDevice}
 use Rattle.wdf_model.specs.rules.Deeds.{close_queue, close_returning, do_deed, do_deeds, finished_at, give_up, queued, withdraw}
@@ -130,7 +130,7 @@ all_close R here off all x =
     subst Sane (sym (entry_map no_request R.all (closed_at here) x blank)) (closes_sane (request_of R x) (here (place_of R x)) (all x))
 
 withdrawn_plain : {A : Type 0} (plan : Plan) (S : State A) (q r : ℕ) → IsPlainPlace (withdrawn_place plan S q r)
-withdrawn_plain plan S q r = by ((requests.info_of S.requests r).received && returns_to plan S q)
+withdrawn_plain plan S q r = by ((requests.info_of S.requests r).received && returns_from plan S q)
   where
     by : (b : Bool) → IsPlainPlace (if b then place.Returning (record { 0 = q }) else place.Closing status.Cancelled)
     by true = tt

@@ -107,7 +107,7 @@ cancel_named n R r k = with_named n R r cancelled (λ x named. record { where_it
 pub take_named : (n : ℕ) (R : Requests) (r : ℕ) → AllNamed n R → AllNamed n (requests.take_cancel R r)
 take_named n R r k = with_named n R r (with_mark mark.Taken) (λ x named. record { where_it_is = named.where_it_is; where_from = named.where_from }) k
 
--- what returns to a queue, or is in it, is closed
+-- what returns from a queue, or is in it, is closed
 pub returning_closed : (n : ℕ) (R : Requests) (q : ℕ) → AllNamed n R → AllNamed n (requests.close_returning R q)
 returning_closed n R q k x = subst (RequestNamed n) (sym (entry_map no_request R.all (closed_at (is_returning_from q)) x refl)) (closed_named n (is_returning_from q) (request_of R x) (k x))
 

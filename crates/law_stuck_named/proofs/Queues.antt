@@ -1,4 +1,4 @@
--- A queue in which a request waits, or to which one returns, is live.
+-- A queue in which a request waits, or from which one returns, is live.
 use Rattle.std.proofs.Common.{◌≡◌, ◌≢◌, ℕ, ◌==◌, Bool, true, false, ◌&&◌, List, inl, inr, Option, Some, is_some, option_map, length, unwrap_or, refl, sym, ap, ◌∙◌}
 use Rattle.std.proofs.lemmas.Bool.{or_cases}
 use Rattle.wdf_base.specs.Meaning.{Meaning}

@@ -94,19 +94,19 @@ idle_target plan k t h = record { number = h; seen = seen_idle; begins = idle_be
 -- ---- in stacks
 
 abbrev seen_level : StackAgent → Option LowerTarget
-seen_level (level.LowerTarget u) = Some u
+seen_level (level.Usual a) = seen a
 seen_level _ = None
 
-level_after : (a : StackAgent) (u : LowerTarget) (e : Event) → seen_level a ≡ Some u → seen_level (stack.agent_after a e) ≡ Some (target_after u e)
-level_after (level.LowerTarget x) u e h = ap (λ (y : LowerTarget). Some (target_after y e)) (same_Some x u h)
+level_after : (a : StackAgent) (u : LowerTarget) (e : Event) → seen_level a ≡ Some u → seen_level (stack.stack_agent_after a e) ≡ Some (target_after u e)
+level_after (level.Usual a) u e h = seen_after a u e h
 level_after _ u e h = absurd (let z : ⊥ = cc in z)
 
-level_due : (a : StackAgent) (u : LowerTarget) → seen_level a ≡ Some u → stack.agent_due a ≡ target_due u
-level_due (level.LowerTarget x) u h = ap target_due (same_Some x u h)
+level_due : (a : StackAgent) (u : LowerTarget) → seen_level a ≡ Some u → stack.stack_agent_due a ≡ target_due u
+level_due (level.Usual a) u h = seen_due a u h
 level_due _ u h = absurd (let z : ⊥ = cc in z)
 
-level_begins : (plan : Plan) (k t : ℕ) → target_of_agent plan k ≡ Some t → connected_to plan t ≡ None → stack.agent_at plan k ≡ level.LowerTarget (target_at plan t k)
-level_begins plan k t h alone = let l = last plan k t h in rw (l.zeroth, l.app, l.device, h, alone) refl
+level_begins : (plan : Plan) (k t : ℕ) → target_of_agent plan k ≡ Some t → connected_to plan t ≡ None → seen_level (stack.stack_agent_at plan k) ≡ Some (target_at plan t k)
+level_begins plan k t h alone = let l = last plan k t h in rw (l.zeroth, h, alone) (ap seen (begins_as plan k t h))
 
 pub stack_target : (plan : Plan) (k t : ℕ) → target_of_agent plan k ≡ Some t → connected_to plan t ≡ None → IsTargetAgent plan stack.stack_meaning k t
-stack_target plan k t h alone = record { number = h; seen = seen_level; begins = ap seen_level (level_begins plan k t h alone); hears = level_after; posts = level_due }
+stack_target plan k t h alone = record { number = h; seen = seen_level; begins = level_begins plan k t h alone; hears = level_after; posts = level_due }

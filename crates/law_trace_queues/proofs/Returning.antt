@@ -1,5 +1,5 @@
--- A request returns to a power-managed queue only while the queues of its device are up. Each deed that leaves the power
--- of devices alone keeps this, and so does `queues_down`, which closes what returns to them.
+-- A request returns from a power-managed queue only while the queues of its device are up. Each deed that leaves the power
+-- of devices alone keeps this, and so does `queues_down`, which closes what returns from them.
 use Rattle.std.proofs.Common.{if◌then◌else◌, ◌≡◌, ◌≢◌, ℕ, zero, suc, ◌==◌, ◌<◌, Bool, true, false, not, ◌&&◌, ◌||◌, List, [], ◌∷◌, inl, inr, Option, Some, None, filter, fold, map, length, option_map, unwrap_or, refl, sym, ap, subst, ◌∙◌, arith}
 use Rattle.std.proofs.lemmas.Bool.{eqb-true}
 use Rattle.std.proofs.lemmas.Option.{slice_get_within}
@@ -29,7 +29,7 @@ use Rattle.wdf_model.specs.parts.Power.{holding_of, is_held, no_device_power}
 use Rattle.wdf_model.specs.parts.Requests.{Requests, cancelled, closed_at, forgotten, info_of, is_in, is_over, made_info, marked, moved, no_request, place_of, request_of, unmarked, with_mark, with_request}
 use Rattle.wdf_model.specs.parts.Requests as requests
 use Rattle.wdf_model.specs.parts.Targets.{is_forgotten}
-use Rattle.wdf_model.specs.State.{State, is_powered, is_with_driver, returns_to, withdrawn_place}
+use Rattle.wdf_model.specs.State.{State, is_powered, is_with_driver, returns_from, withdrawn_place}
 use Rattle.wdf_model.specs.Ids.{object_id}
 use Rattle.wdf_model.specs.declared.deed.Deed.{Deed}
 use Rattle.wdf_model.specs.declared.deed.Deed.TheVariants.{Arrive, AskDeletion, CancelRequest, CloseDevice, CloseReturning, ComeBack, CompleteRequest, EndLife, FinishSending, Forward, GiveBack, MakeRequest, MarkRequest, Present, PurgeQueue, Receive, Requeue, SendRequest, TakeCancel, UnmarkRequest, Withdraw}
@@ -50,7 +50,7 @@ use Rattle.law_machine_counts.proofs.PowerQueues.{released_devices}
 abbrev pub powered_by : Plan → List DevicePower → ℕ → Bool
 powered_by plan D q = not (is_managed plan q) || (entry no_device_power D (device_of_queue plan q)).up
 
--- each queue to which a request returns has power
+-- each queue from which a request returns has power
 abbrev pub Backed : Plan → List DevicePower → Requests → Type 0
 Backed plan D R = (x q : ℕ) → is_returning_from q (place_of R x) ≡ true → powered_by plan D q ≡ true
 
@@ -136,9 +136,9 @@ module _ (plan : Plan) (D : List DevicePower) where
 
   withdrawn_at : {A : Type 0} (U : State A) (q r : ℕ) → devices_of U ≡ D → At (withdrawn_place plan U q r)
   withdrawn_at U q r same =
-      returned_at ((info_of U.requests r).received && returns_to plan U q) q
+      returned_at ((info_of U.requests r).received && returns_from plan U q) q
       (λ yes.
-      let powered : is_powered plan U q ≡ true = both_right (declares plan callback.EvtIoCanceledOnQueue q && not (is_closed U.control (device_of_queue plan q))) (is_powered plan U q) (both_right (info_of U.requests r).received (returns_to plan U q) yes) in
+      let powered : is_powered plan U q ≡ true = both_right (declares plan callback.EvtIoCanceledOnQueue q && not (is_closed U.control (device_of_queue plan q))) (is_powered plan U q) (both_right (info_of U.requests r).received (returns_from plan U q) yes) in
       subst (λ E. powered_by plan E q ≡ true) same powered)
 
   cancelled_in : {A : Type 0} (U : State A) (q r : ℕ) → devices_of U ≡ D → Backed plan D U.requests → Backed plan D (cancel_in plan U q r).requests
@@ -267,7 +267,7 @@ managed_there plan q d h e =
     contains_kept (is_managed plan) q (queues_of plan d) h
     (contained (λ id. is_queue_of d (queue_of plan id)) q 0 (suc (length plan.declared)) (queue_of_its_device d (queue_of plan q) h e) (omega arith) (omega arith))
 
--- after what returns to the power-managed queues of a device is closed, these may lose power
+-- after what returns from the power-managed queues of a device is closed, these may lose power
 pub backed_down : {A : Type 0} (plan : Plan) (S : State A) (n : ℕ) (D E : List DevicePower) → ((d : ℕ) → d ≢ n → entry no_device_power E d ≡ entry no_device_power D d) → Backed plan D S.requests → Backed plan E (fold close_returning S (managed_queues plan n)).requests
 backed_down plan S n D E others k x q h = by_managed (is_managed plan q) refl
   where

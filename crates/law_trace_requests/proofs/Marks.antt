@@ -22,7 +22,7 @@ use Rattle.wdf_model.specs.parts.Queues.{front, waiting_in}
 use Rattle.wdf_model.specs.parts.Queues as queues
 use Rattle.wdf_model.specs.parts.Control as control
 use Rattle.wdf_model.specs.parts.Targets.{is_forgotten, is_undone, routine_due}
-use Rattle.wdf_model.specs.State.{State, returns_to, withdrawn_place}
+use Rattle.wdf_model.specs.State.{State, returns_from, withdrawn_place}
 use Rattle.wdf_model.specs.Ids.{object_id}
 use Rattle.wdf_model.specs.declared.deed.Deed.{Deed}
 use Rattle.wdf_model.specs.declared.deed.Deed.TheVariants.{MakeRequest, Arrive, AskDeletion, EndLife, Present, Receive, Requeue, Forward, GiveBack, Withdraw, MarkRequest, UnmarkRequest, CancelRequest, TakeCancel, SendRequest, FinishSending, ComeBack, CompleteRequest, PurgeQueue, CloseReturning, CloseDevice}
@@ -233,7 +233,7 @@ new_request_comes R r p info new off m c b x g =
 -- ---- places
 
 pub withdrawn_unmarked : {A : Type 0} (plan : Plan) (S : State A) (q r : ℕ) (k : Mark) → mark_at (withdrawn_place plan S q r) k ≡ marks.Unmarked
-withdrawn_unmarked plan S q r k = elim (cases_Bool ((info_of S.requests r).received && returns_to plan S q)) [
+withdrawn_unmarked plan S q r k = elim (cases_Bool ((info_of S.requests r).received && returns_from plan S q)) [
   | inl e ↦ rw e refl
   | inr e ↦ rw e refl
 ]

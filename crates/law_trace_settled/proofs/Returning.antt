@@ -1,4 +1,4 @@
--- A request returns to a power-managed queue only while the queues of its device are up.
+-- A request returns from a power-managed queue only while the queues of its device are up.
 use Rattle.std.proofs.Common.{if◌then◌else◌, ◌≡◌, ℕ, Bool, true, false, not, ◌&&◌, ◌||◌, List, [], ◌∷◌, inl, inr, map, fold, refl, sym, ap, subst, ◌∙◌}
 use Rattle.std.proofs.lemmas.Bool.{eqb-true}
 use Rattle.wdf_base.specs.declared.plan.Plan.{Plan}
@@ -21,7 +21,7 @@ use Rattle.wdf_model.specs.parts.Queues.{waiting_in}
 use Rattle.wdf_model.specs.parts.Control as control
 use Rattle.wdf_model.specs.parts.Power.{holding_of, is_held, no_device_power}
 use Rattle.wdf_model.specs.parts.Targets.{is_forgotten}
-use Rattle.wdf_model.specs.State.{State, is_powered, is_with_driver, returns_to, withdrawn_place}
+use Rattle.wdf_model.specs.State.{State, is_powered, is_with_driver, returns_from, withdrawn_place}
 use Rattle.wdf_model.specs.declared.deed.Deed.{Deed}
 use Rattle.wdf_model.specs.declared.deed.Deed.TheVariants.{MakeRequest, Arrive, AskDeletion, EndLife, Present, Receive, Requeue, Forward, GiveBack, Withdraw, MarkRequest, UnmarkRequest, CancelRequest, TakeCancel, SendRequest, FinishSending, ComeBack, CompleteRequest, PurgeQueue, CloseReturning, CloseDevice}
 use Rattle.wdf_model.specs.rules.Deeds.{arrive_at, cancel_in, close_queue, close_returning, do_deed, finished_at, give_up, give_up_if, queued, withdraw}
@@ -37,7 +37,7 @@ use Rattle.law_machine_counts.proofs.PowerQueues.{released_devices}
 
 -- ---- requests
 
--- a request that returns to a queue returned to it before, or the queue passes a test
+-- a request that returns from a queue returned from it before, or the queue passes a test
 module _ (p : ℕ → Bool) where
   abbrev pub Comes : Requests → Requests → Type 0
   Comes R U = (r q : ℕ) → is_returning_from q (place_of U r) ≡ true → (is_returning_from q (place_of R r) || p q) ≡ true
@@ -122,8 +122,8 @@ withdrawn_by q x false h = absurd (let z : ⊥ = cc in z)
 
 withdrawn_powered : {A : Type 0} (plan : Plan) (U : State A) (q r x : ℕ) → is_returning_from x (withdrawn_place plan U q r) ≡ true → is_powered plan U x ≡ true
 withdrawn_powered plan U q r x h =
-    let t = withdrawn_by q x ((info_of U.requests r).received && returns_to plan U q) h in
-    let goes : returns_to plan U q ≡ true = both_right (info_of U.requests r).received (returns_to plan U q) t.0 in
+    let t = withdrawn_by q x ((info_of U.requests r).received && returns_from plan U q) h in
+    let goes : returns_from plan U q ≡ true = both_right (info_of U.requests r).received (returns_from plan U q) t.0 in
     let now : is_powered plan U q ≡ true = search both_right in
     subst (λ y. is_powered plan U y ≡ true) t.1 now
 

@@ -1,4 +1,4 @@
--- At each place of a run, a request returns to a power-managed queue only while the queues of its device are up.
+-- At each place of a run, a request returns from a power-managed queue only while the queues of its device are up.
 use Rattle.std.proofs.Common.{if◌then◌else◌, ◌≡◌, ◌≢◌, ℕ, Bool, true, false, not, ◌||◌, List, [], ◌∷◌, inl, inr, Option, fold, refl, sym, ap, subst, ◌∙◌}
 use Rattle.std.specs.List.{list_all}
 use Rattle.std.proofs.lemmas.Bool.{cases_Bool}
@@ -103,7 +103,7 @@ closed_one S q r =
     ap (λ (e : Request). is_returning_from q e.place) (entry_map no_request S.requests.all (closed_at (is_returning_from q)) r refl)
     ∙ closed_not q (request_of S.requests r) (is_returning_from q (place_of S.requests r)) refl
 
--- nothing returns to a queue to which what returns was closed
+-- nothing returns from a queue whose returning requests were closed
 closed_all : {A : Type 0} (qs : List ℕ) (S : State A) (r : ℕ) → list_all (λ q. not (is_returning_from q (place_of (fold close_returning S qs).requests r))) qs ≡ true
 closed_all [] S r = refl
 closed_all (q ∷ qs) S r =

@@ -31,7 +31,7 @@ fn nothing_held<A: Agent>(parts: &Parts<A>, q: ObjectId) -> bool
 fn nothing_returns<A: Agent>(parts: &Parts<A>, q: ObjectId) -> bool
     ensures { result ≡ calls.nothing_returns parts.now q.0 }
 {
-    !parts.requests().returns_to(q)
+    !parts.requests().returns_from(q)
 }
 
 /// Whether the wait of a call is over; the calls that never wait are met at once. (KMDF)
@@ -78,11 +78,11 @@ fn some_received<A: Agent>(parts: &Parts<A>, q: ObjectId) -> bool
     false
 }
 
-/// Whether a purge of a queue makes some request return to it: a waiting one that the driver had before.
+/// Whether a purge of a queue makes some request return from it: a waiting one that the driver had before.
 fn purge_returns<A: Agent>(plan: &IndexedPlan, parts: &Parts<A>, q: ObjectId) -> bool
     ensures { result ≡ calls.purge_returns plan.now parts.now q.0 }
 {
-    parts.returns_to(plan, q) && some_received(parts, q)
+    parts.returns_from(plan, q) && some_received(parts, q)
 }
 
 /// Whether the wait of a call is over once its first part is done, asked of the state before it. Only a

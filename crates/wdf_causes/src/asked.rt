@@ -27,7 +27,7 @@ pub(crate) enum RequestTest {
     HeldFrom(ObjectId),
     /// A resume is due for it, and the driver holds it from this queue.
     ResumeDue(ObjectId),
-    /// It returns to this queue.
+    /// It returns from this queue.
     ReturningTo(ObjectId),
     /// It is sent to this target.
     SentTo(ObjectId),

@@ -76,8 +76,8 @@ pub fn least_held_from<A: Agent>(plan: &IndexedPlan, parts: &Parts<A>, q: Object
     least_request(plan, parts, RequestTest::HeldFrom(q))
 }
 
-/// The least request that returns to a queue.
-pub fn least_returning_to<A: Agent>(
+/// The least request that returns from a queue.
+pub fn least_returning_from<A: Agent>(
     plan: &IndexedPlan,
     parts: &Parts<A>,
     q: ObjectId,

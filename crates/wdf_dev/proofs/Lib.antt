@@ -1,4 +1,5 @@
 pub mod Acting
 pub mod Gathering
 pub mod Mapping
+pub mod Models
 pub mod Owning

@@ -1,6 +1,6 @@
 ghost use Rattle.std.specs.Prelude.{◌≡◌, ◌+◌, ◌-◌, ◌≤◌, length, map, slice_get, IfOk};
 ghost use Rattle.std.specs.List.{range_with_len};
-ghost use Rattle.wdf_model.specs.Plans.{devices_of, targets_of};
+ghost use Rattle.wdf_model.specs.Plans.{devices_of, first_device_agent, targets_of};
 ghost use Rattle.wdf_dev.specs.Agents.{agent_at, agent_meaning, device_or_target};
 ghost use Rattle.wdf_plan_index.specs.Owners.{names_of};
 ghost use Rattle.wdf_plan_index.specs.declared.owners.Owner.TheVariants as owner;
@@ -89,8 +89,18 @@ fn owned_agent(
     Ok(AnyAgent::App(App::make(alloc, plan, agent)?))
 }
 
+/// How many agents come before those of the devices: the Plug and Play manager and the apps.
+pub fn agents_before_devices(plan: &Plan, devices: &[u32], targets: &[u32]) -> usize
+    requires device_names { length devices.now ≡ length (names_of owner.Device plan.now) }
+    requires target_names { length targets.now ≡ length (names_of owner.Target plan.now) }
+    ensures { result ≡ first_device_agent plan.now }
+{
+    let owned = devices.len() + targets.len();
+    1 + (usize::from(plan.agent_len()) - 1).saturating_sub(owned)
+}
+
 /// The agent with this number, as it is at the opening.
-fn agent_of(
+pub fn agent_of(
     alloc: Global,
     plan: &Plan,
     devices: &[u32],
@@ -108,8 +118,7 @@ fn agent_of(
         return Ok(AnyAgent::PnpManager(PnpManager::make(alloc, plan)?));
     }
     let number = usize::from(agent);
-    let owned = devices.len() + targets.len();
-    let first = 1 + (usize::from(plan.agent_len()) - 1).saturating_sub(owned);
+    let first = agents_before_devices(plan, devices, targets);
     if number < first {
         Ok(AnyAgent::App(App::make(alloc, plan, agent)?))
     } else {

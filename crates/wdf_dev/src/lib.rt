@@ -27,7 +27,7 @@ mod laws;
 mod lower_target;
 mod pnp_manager;
 
-pub use any::{AnyAgent, agents};
+pub use any::{AnyAgent, agent_of, agents, agents_before_devices};
 pub use app::App;
 pub use device::Device;
 pub use laws::agents_are_the_models;

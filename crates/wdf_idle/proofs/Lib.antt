@@ -1,4 +1,5 @@
 pub mod Changes
 pub mod Concerning
 pub mod Gathering
+pub mod Models
 pub mod Numbered

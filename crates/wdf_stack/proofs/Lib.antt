@@ -1,5 +1,5 @@
 pub mod Finding
 pub mod Leading
-pub mod Owning
+pub mod Models
 pub mod Placing
 pub mod Walking

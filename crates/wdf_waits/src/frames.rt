@@ -11,8 +11,8 @@ ghost use Rattle.wdf_model.specs.rules.Waits as waits;
 use wdf_base::{Agent, Call, CallKind, Cause, FrameId, ObjectId, OpenThing, Pending, WaitLine};
 use wdf_calls::is_met;
 use wdf_causes::{
-    PASSIVE_LEVEL, by_frame, by_frame_on, by_lock, by_request, least_held_from, least_returning_to,
-    least_sent_to, least_waiting, no_cpu,
+    PASSIVE_LEVEL, by_frame, by_frame_on, by_lock, by_request, least_held_from,
+    least_returning_from, least_sent_to, least_waiting, no_cpu,
 };
 use wdf_maps::lesser_if;
 use wdf_model::object_in;
@@ -37,7 +37,7 @@ fn by_held_or_waiting<A: Agent>(plan: &IndexedPlan, parts: &Parts<A>, q: ObjectI
 }
 
 #[tactic(auto, using(wdf_maps::proofs::Leasts::least_append))]
-/// The least request that the driver holds from a queue, or that returns to it.
+/// The least request that the driver holds from a queue, or that returns from it.
 fn by_held_or_returning<A: Agent>(
     plan: &IndexedPlan,
     parts: &Parts<A>,
@@ -46,7 +46,7 @@ fn by_held_or_returning<A: Agent>(
     ensures { result ≡ waits.by_request plan.now parts.now (state.held_from parts.now q.0 ++ waits.requests_where parts.now (is_returning_from q.0)) }
 {
     let held = least_held_from(plan, parts, q);
-    let returning = least_returning_to(plan, parts, q);
+    let returning = least_returning_from(plan, parts, q);
     by_request(plan, parts, lesser_if(held, returning))
 }
 

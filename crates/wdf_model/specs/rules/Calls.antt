@@ -32,7 +32,7 @@ use Rattle.wdf_model.specs.parts.Deferred.Dpcs.{is_dpc_queued}
 use Rattle.wdf_model.specs.parts.Deferred.WorkItems.{is_work_queued}
 use Rattle.wdf_model.specs.parts.Deferred.Timers.{is_timer_queued}
 use Rattle.wdf_model.specs.parts.Targets.{takes_more, is_undone}
-use Rattle.wdf_model.specs.State.{State, object_in, queue_delivers, nothing_at, handle_in, returns_to}
+use Rattle.wdf_model.specs.State.{State, object_in, queue_delivers, nothing_at, handle_in, returns_from}
 use Rattle.wdf_model.specs.Ids.{cpu_of, frame_id, irql_of, object_id}
 use Rattle.wdf_model.specs.declared.deed.Deed.{Deed}
 use Rattle.wdf_model.specs.declared.deed.Deed.TheVariants.{Create, MakeRequest, AskDeletion, Refer, Unrefer, WriteCell, Raise, Lower, TakeLock, ReleaseLock, Present, Requeue, Forward, GiveBack, MarkRequest, UnmarkRequest, SendRequest, CompleteRequest, SetMode, PurgeQueue, RegisterQueue, Acknowledge, EnqueueDpc, CancelDpc, EnqueueWork, StartTimer, StopTimer, StopTarget, StartTarget}
@@ -353,10 +353,10 @@ is_met S c = elim c.kind as (λ _. Bool) [
   | _ ↦ true
 ]
 
--- whether a purge of queue q makes a request return to it: one waits there that the driver had before, and q would
+-- whether a purge of queue q makes a request return from it: one waits there that the driver had before, and q would
 -- give it back
 abbrev pub purge_returns : {A : Type 0} → Plan → State A → ℕ → Bool
-purge_returns plan S q = returns_to plan S q && list_any (λ r. (info_of S.requests r).received) (waiting_in S.queues q)
+purge_returns plan S q = returns_from plan S q && list_any (λ r. (info_of S.requests r).received) (waiting_in S.queues q)
 
 -- whether the wait of call c is over once its first part is done, said of the state before it
 abbrev pub is_met_then : {A : Type 0} → Plan → State A → Call → Bool

@@ -126,7 +126,7 @@ call_cause plan S c = elim c.kind as (λ _. Option Cause) [
   | call.WdfIoQueueStopSynchronously ↦ by_request plan S (held_from S (object_in c.a))
   -- the same, and what waits in the queue
   | call.WdfIoQueueDrainSynchronously ↦ by_request plan S (held_from S (object_in c.a) ++ waiting_in S.queues (object_in c.a))
-  -- what the driver holds from the queue, and what returns to it
+  -- what the driver holds from the queue, and what returns from it
   | call.WdfIoQueuePurgeSynchronously ↦ by_request plan S (held_from S (object_in c.a) ++ requests_where S (is_returning_from (object_in c.a)))
   -- what is sent to the target
   | call.WdfIoTargetStop ↦ by_request plan S (requests_where S (is_sent_to (object_in c.a)))

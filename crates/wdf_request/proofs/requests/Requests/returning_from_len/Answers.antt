@@ -1,7 +1,7 @@
 -- The count is that of the requests, and so are as many as are found.
 use Rattle.wdf_request.specs.Requests.{requests_in}
 use Rattle.wdf_request.proofs.ForQueues.{returning_counted, returning_found}
-use Rattle.wdf_request.proofs.requests.Requests.returning_to_len.Goals as goal
+use Rattle.wdf_request.proofs.requests.Requests.returning_from_len.Goals as goal
 
 pub returns-then-q-lt-OBJECTS : goal.returns-then-q-lt-OBJECTS
 returns-then-q-lt-OBJECTS c =

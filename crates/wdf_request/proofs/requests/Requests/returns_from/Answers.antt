@@ -2,7 +2,7 @@
 use Rattle.wdf_model.specs.declared.entries.Request.{Request}
 use Rattle.wdf_maps.proofs.Counting.{any_at}
 use Rattle.wdf_request.proofs.Belonging.{is_at_queue}
-use Rattle.wdf_request.proofs.requests.Requests.returns_to.Goals as goal
+use Rattle.wdf_request.proofs.requests.Requests.returns_from.Goals as goal
 
 pub returns-then-q-lt-OBJECTS : goal.returns-then-q-lt-OBJECTS
 returns-then-q-lt-OBJECTS c =
