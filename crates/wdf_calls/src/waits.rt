@@ -52,7 +52,7 @@ pub fn is_met<A: Agent>(parts: &Parts<A>, call: &Call) -> bool
         }
         CallKind::WdfDpcCancel => call.b.is_number(0) || parts.cpus().nobody_on(o),
         CallKind::WdfTimerStop => call.b.is_number(0) || parts.cpus().nobody_on(o),
-        CallKind::WdfWorkItemFlush => !parts.work_items().is_work_queued(o)
+        CallKind::WdfWorkItemFlush => !parts.work_items().queued(o)
             && parts.cpus().nobody_on(o),
         CallKind::WdfIoTargetStop => call.b.is_number(2) || parts.nothing_at(o),
         _ => true,

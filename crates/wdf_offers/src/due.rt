@@ -160,7 +160,7 @@ fn is_timer_due<A: Agent>(parts: &Parts<A>, place: u32) -> bool
     }
     parts
         .timers()
-        .timer_due(parts.timers().at(place).timer, parts.now())
+        .due(parts.timers().at(place).timer, parts.now())
 }
 
 /// Whether an object counts against the limit: one that is gone doesn't, nor an arrived request.

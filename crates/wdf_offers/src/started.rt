@@ -104,7 +104,7 @@ fn dpc_start<A: Agent>(
 ) -> Option<Event>
     ensures { result ≡ search.if_allowed plan.now A.meaning parts.now (groups.start_at plan.now parts.now cpu.0 rank.Deferred place) }
 {
-    let o = parts.dpcs().dpc_head(cpu)?;
+    let o = parts.dpcs().head(cpu)?;
     let callback = parts.tree().kind(o).dpc_function();
     start_if(plan, parts, cpu, callback, o)
 }

@@ -82,15 +82,15 @@ pub fn rank_ready<A: Agent>(
 {
     match rank {
         Rank::Isr => isr_due(plan, parts, o),
-        Rank::Deferred => is_id(parts.dpcs().dpc_head(cpu), o),
-        Rank::Timed => parts.timers().timer_due(o, parts.now()) && parts.cpus().nobody_on(o),
+        Rank::Deferred => is_id(parts.dpcs().head(cpu), o),
+        Rank::Timed => parts.timers().due(o, parts.now()) && parts.cpus().nobody_on(o),
         Rank::QueueState => parts.control().notify_due(o) && parts.queue_delivers(plan, o),
         Rank::Sequence => step_ready(
             parts,
             parts.tree().device(o),
             step_of(plan, parts, callback, o),
         ),
-        Rank::Work => parts.work_items().is_work_queued(o) && parts.cpus().nobody_on(o),
+        Rank::Work => parts.work_items().queued(o) && parts.cpus().nobody_on(o),
         Rank::Cleanup => clean_ready(parts, o) && !parts.tree().started(o, callback),
         Rank::Destroy => destroy_ready(parts, o) && !parts.tree().started(o, callback),
         _ => false,
