@@ -149,7 +149,7 @@ fn front_start<A: Agent>(
 ) -> Option<Event>
     ensures { result ≡ search.if_allowed plan.now A.meaning parts.now (groups.start_at plan.now parts.now cpu.0 rank.Handler q.0) }
 {
-    let r = parts.queues().front(q)?;
+    let r = parts.queues().head(q)?;
     let callback = plan.handler_for(q, parts.requests().info(r).form)?;
     start_for_if(plan, parts, cpu, callback, q, r)
 }

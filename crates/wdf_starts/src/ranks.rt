@@ -40,8 +40,8 @@ fn presents<A: Agent>(
 {
     !plan.is_manual_queue(q)
         && parts.queue_delivers(plan, q)
-        && parts.queues().is_free(q)
-        && is_id(parts.queues().front(q), r)
+        && parts.queues().free(q)
+        && is_id(parts.queues().head(q), r)
         && is_callback(plan.handler_for(q, parts.requests().info(r).form), callback)
 }
 
