@@ -7,7 +7,7 @@ What to run before a release, beside `.ci/run`. Each row has what was tried, its
 status was 0; what a row writes besides is in a log, which the table names where it isn't well. With names only these rows are
 run. A row whose script or tool isn't there is left out, and says so. `--long` adds what takes hours: every wrong body.
 
-The rows of worked answers through the whole program are tests of the gate (`crates/test_program`), and so aren't among these.
+The first row tries the programs that the launchers run; with KMDFSIM_PROVED=1 in the environment these are the proved ones.
 The status is 0 where each row that was run is well, else 1.
 """
 
@@ -24,7 +24,7 @@ from built import PROGRAM, ROOT, program_at
 
 # The name of a row, its script with arguments, and a command that it needs. P is put for the program.
 ROWS = (
-    ("examples", "tools/check_examples.py P 20", None),
+    ("tests", "test --seeds 20", None),
     ("threads", "tools/run_many.py --program P 20", None),
     ("watched", "tools/run_many.py --program P --word watch 20", None),
     ("first-line", "tools/first_line.py --program P", None),

@@ -1,11 +1,10 @@
-#!/usr/bin/env python3
-"""A test of tools/architecture.py over a small made tree: the tables, what stays of the page, and what is refused."""
+"""Tests of tools/architecture.py over a small made tree: the tables, what stays of the page, and what is refused."""
 
-import sys
 import tempfile
+import unittest
 from pathlib import Path
+from unittest import mock
 
-sys.dont_write_bytecode = True
 import architecture
 
 LIST = """# What this list is.
@@ -55,28 +54,27 @@ REFUSED = [
 
 
 def page_of(files):
-    """The page for a made tree, or what the script says of it."""
+    """The page for a made tree."""
     with tempfile.TemporaryDirectory() as room:
         root = Path(room)
-        architecture.CRATES, architecture.LIST, architecture.PAGE = root / "crates", root / "crates.txt", root / "docs/ARCHITECTURE.md"
         for place, text in files.items():
             (root / place).parent.mkdir(parents=True, exist_ok=True)
             (root / place).write_text(text)
-        try:
+        with mock.patch.multiple(architecture, CRATES=root / "crates", LIST=root / "crates.txt", PAGE=root / "docs/ARCHITECTURE.md"):
             return architecture.page()
-        except architecture.Lost as lost:
-            return str(lost)
 
 
-def main():
-    found = page_of(FILES)
-    wrong = [] if found == WANTED else [found]
-    for place, old, new, said in REFUSED:
-        heard = page_of({**FILES, place: FILES[place].replace(old, new)})
-        if not heard.startswith(said):
-            wrong.append(f"of {new!r} in {place}: {heard}")
-    sys.exit("\n".join(wrong) if wrong else 0)
+class Page(unittest.TestCase):
+    def test_tables(self):
+        self.assertEqual(page_of(FILES), WANTED)
+
+    def test_what_is_refused(self):
+        for place, old, new, said in REFUSED:
+            with self.subTest(place=place, new=new), self.assertRaises(architecture.Lost) as lost:
+                page_of({**FILES, place: FILES[place].replace(old, new)})
+            with self.subTest(place=place, new=new):
+                self.assertTrue(str(lost.exception).startswith(said), lost.exception)
 
 
 if __name__ == "__main__":
-    main()
+    unittest.main()

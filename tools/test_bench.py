@@ -1,13 +1,12 @@
-#!/usr/bin/env python3
-"""A test of what the scripts of bench/ share: a run has its answer, status and figures; a program that isn't there ends the script;
+"""Tests of what the scripts of bench/ share: a run has its answer, status and figures; a program that isn't there ends the script;
 a table's cell has its exponent only where that says something; events are read off an ending; the crates below one are found;
 modules come in the order in which they were written. The texts of scenarios have as many lines as they are asked for."""
 
 import os
 import sys
 import tempfile
+import unittest
 
-sys.dont_write_bytecode = True
 sys.path.insert(0, os.path.join(os.path.dirname(os.path.dirname(os.path.abspath(__file__))), "bench"))
 import functions
 import machine
@@ -19,61 +18,53 @@ TRACE = b"1 tick 1\nfinished 24\n"
 CRATES = "low:\nmiddle: low  # a word\nhigh: middle kit_crate\n"
 
 
-def ends(call, *words):
-    """Whether a call ends the script."""
-    try:
-        call(*words)
-    except SystemExit:
-        return True
-    return False
+class Bench(unittest.TestCase):
+    def setUp(self):
+        room = tempfile.TemporaryDirectory()
+        self.addCleanup(room.cleanup)
+        self.room = room.name
 
+    def test_a_run(self):
+        program = os.path.join(self.room, "program")
+        with open(program, "w", encoding="ascii") as file:
+            file.write('#!/bin/sh\necho "$@"\ncat\nexit 5\n')
+        os.chmod(program, 0o755)
+        answer, status, (clock, processor, memory) = measure.run("seed 5", b"text\n", program)
+        self.assertEqual((answer, status), (b"seed 5\ntext\n", 5))
+        self.assertTrue(clock > 0 <= processor and 0 < memory < 1000, (clock, processor, memory))
+        self.assertEqual(measure.program_of(["script", program]), program)
 
-def runs(room):
-    """What is wrong with a run of a small program."""
-    program = os.path.join(room, "program")
-    with open(program, "w", encoding="ascii") as file:
-        file.write('#!/bin/sh\necho "$@"\ncat\nexit 5\n')
-    os.chmod(program, 0o755)
-    answer, status, (clock, processor, memory) = measure.run("seed 5", b"text\n", program)
-    if (answer, status) != (b"seed 5\ntext\n", 5):
-        yield "a run's answer and status"
-    if not (0 < clock < 60 and 0 <= processor < 60 and 0 < memory < 1000):
-        yield "a run's figures"
-    if measure.program_of(["script", program]) != program or not ends(measure.program_of, ["script", program + "s"]):
-        yield "which program is meant"
+    def test_a_program_that_is_not_there(self):
+        with self.assertRaises(SystemExit):
+            measure.program_of(["script", os.path.join(self.room, "program")])
 
+    def test_modules_come_as_they_were_written(self):
+        for at, name in ((30, "b.Lts"), (10, "a.Proof"), (20, "c.Answers")):
+            path = os.path.join(self.room, f"{name}.oantt")
+            open(path, "w", encoding="ascii").close()
+            os.utime(path, (at, at))
+        self.assertEqual(modules.modules_below(self.room), [(10, "a.Proof"), (20, "c.Answers"), (30, "b.Lts")])
 
-def written(room):
-    """What is wrong with the order of modules."""
-    for at, name in ((30, "b.Lts"), (10, "a.Proof"), (20, "c.Answers")):
-        path = os.path.join(room, f"{name}.oantt")
-        open(path, "w", encoding="ascii").close()
-        os.utime(path, (at, at))
-    if modules.modules_below(room) != [(10, "a.Proof"), (20, "c.Answers"), (30, "b.Lts")]:
-        yield "the order of modules"
+    def test_events_of_an_ending(self):
+        self.assertEqual(table.events_of(TRACE), 24)
+        with self.assertRaises(SystemExit):
+            table.events_of(b"1 tick 1\n")
 
+    def test_cells(self):
+        self.assertEqual(table.cell((2000, 0.081, 7), (1000, 0.021, 7), 0.001).split(), ["40.50", "2.00", "7"])
+        self.assertEqual(table.cell((2000, 0.08, 7), (1000, 0.0029, 7), 0.001).split(), ["40.00", "7"])
+        self.assertEqual(table.cell(None, None, 0.001).split(), ["too", "long"])
 
-def main():
-    wrong = []
-    with tempfile.TemporaryDirectory() as room:
-        wrong += runs(room)
-    with tempfile.TemporaryDirectory() as room:
-        wrong += written(room)
-    if table.events_of(TRACE) != 24 or not ends(table.events_of, b"1 tick 1\n"):
-        wrong.append("how many events an ending tells")
-    if table.cell((2000, 0.081, 7), (1000, 0.021, 7), 0.001).split() != ["40.50", "2.00", "7"]:
-        wrong.append("an exponent")
-    if table.cell((2000, 0.08, 7), (1000, 0.0029, 7), 0.001).split() != ["40.00", "7"] or table.cell(None, None, 0.001).split() != ["too", "long"]:
-        wrong.append("a cell without an exponent")
-    crates = functions.crates_of(CRATES)
-    if crates != {"low": [], "middle": ["low"], "high": ["middle", "kit_crate"]} or functions.below(crates, "high") != ["middle", "low"]:
-        wrong.append("the crates below one")
-    if machine.reads(7).count("at 0 read D 16\n") != 7 or machine.removal(3).count("read") != 3 or "limit 9\n" not in machine.interrupts(9):
-        wrong.append("a scenario's size")
-    for one in wrong:
-        print(f"test_bench: wrong: {one}")
-    sys.exit(1 if wrong else 0)
+    def test_the_crates_below_one(self):
+        crates = functions.crates_of(CRATES)
+        self.assertEqual(crates, {"low": [], "middle": ["low"], "high": ["middle", "kit_crate"]})
+        self.assertEqual(functions.below(crates, "high"), ["middle", "low"])
+
+    def test_sizes_of_scenarios(self):
+        self.assertEqual(machine.reads(7).count("at 0 read D 16\n"), 7)
+        self.assertEqual(machine.removal(3).count("read"), 3)
+        self.assertIn("limit 9\n", machine.interrupts(9))
 
 
 if __name__ == "__main__":
-    main()
+    unittest.main()

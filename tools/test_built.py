@@ -1,48 +1,70 @@
-#!/usr/bin/env python3
-"""A test of tools/built.py: a program that is there has its path, one that isn't there or can't be run ends the script and says how
-to build it, and so does a command that isn't on the PATH."""
+"""Tests of tools/built.py: which program a script is given, and what ends it."""
 
 import os
-import sys
 import tempfile
+import unittest
+from unittest import mock
 
-sys.dont_write_bytecode = True
 import built
 
-
-def said_by(call, *words):
-    """What a call answers, or what it says when it ends the script."""
-    try:
-        return call(*words)
-    except SystemExit as end:
-        return f"ends: {end}"
+LAUNCHER = """#!/bin/sh
+[ "$*" = --build ] && echo "${0%/*}/quick"
+"""
 
 
-def main():
-    wrong = []
-    with tempfile.TemporaryDirectory() as room:
-        path = os.path.join(room, "program")
-        advice = f"ends: no program at {path}. Build it first: `./program` at the top does"
-        if not said_by(built.program_at, path).startswith(advice):
-            wrong.append("a program that isn't there")
+class Programs(unittest.TestCase):
+    def setUp(self):
+        room = tempfile.TemporaryDirectory()
+        self.addCleanup(room.cleanup)
+        self.room, self.path = room.name, os.path.join(room.name, "program")
+        self.addCleanup(built.launched.cache_clear)
+
+    def put(self, path, text="#!/bin/sh\n", mode=0o755):
+        path = os.path.join(self.room, path)
+        os.makedirs(os.path.dirname(path), exist_ok=True)
         with open(path, "w", encoding="ascii") as file:
-            file.write("#!/bin/sh\n")
-        os.chmod(path, 0o644)
+            file.write(text)
+        os.chmod(path, mode)
+        return path
+
+    def assert_ends(self, said, call, *words):
+        with self.assertRaises(SystemExit) as end:
+            call(*words)
+        self.assertIn(said, str(end.exception))
+
+    def test_a_program_that_is_there(self):
+        self.put("program")
+        self.assertEqual(built.program_at(self.path), self.path)
+        self.assertEqual(built.program_at(os.path.relpath(self.path)), self.path)
+
+    def test_a_program_that_is_not_there(self):
+        self.assert_ends(f"no program at {self.path}. Build it first: `./program` at the top does", built.program_at, self.path)
+
+    def test_a_program_that_cannot_be_run(self):
         # Who may run everything, as root on some systems, may not run a file without the mark either.
-        if not said_by(built.program_at, path).startswith(advice):
-            wrong.append("a program that can't be run")
-        os.chmod(path, 0o755)
-        if said_by(built.program_at, path) != path or said_by(built.program_at, os.path.relpath(path)) != path:
-            wrong.append("a program that is there")
-    if said_by(built.needs, "sh", "a shell") is not None:
-        wrong.append("a command that is there")
-    if said_by(built.needs, "no-such-command", "it is needed here") != "ends: `no-such-command` isn't on the PATH: it is needed here":
-        wrong.append("a command that isn't there")
-    for name, place in (("kmdfsim", built.PROGRAM), ("kmdfhunt", built.HUNTER)):
-        if os.path.relpath(place, built.ROOT) != os.path.join("crates", name, "out", name):
-            wrong.append(f"where {name} is")
-    sys.exit(f"tools/built.py isn't right for: {', '.join(wrong)}" if wrong else 0)
+        self.put("program", mode=0o644)
+        self.assert_ends(f"no program at {self.path}", built.program_at, self.path)
+
+    def test_a_command_that_is_there(self):
+        self.assertIsNone(built.needs("sh", "a shell"))
+
+    def test_a_command_that_is_not_there(self):
+        self.assert_ends("`no-such-command` isn't on the PATH: it is needed here", built.needs, "no-such-command", "it is needed here")
+
+    def test_a_program_of_a_folder(self):
+        path = self.put("program")
+        with mock.patch.dict(os.environ, {"KMDFSIM_PROGRAMS": self.room}):
+            self.assertEqual(built.launched("program"), path)
+
+    def test_the_program_that_the_launcher_runs(self):
+        self.put("kmdfsim", LAUNCHER)
+        quick = self.put("quick")
+        self.put("kmdfhunt", "#!/bin/sh\nexit 1\n")
+        with mock.patch.object(built, "ROOT", self.room), mock.patch.dict(os.environ, {"KMDFSIM_PROGRAMS": ""}):
+            self.assertEqual(built.launched("kmdfsim"), quick)
+            self.assertEqual(built.program_at(os.path.join(self.room, "kmdfsim")), quick)
+            self.assert_ends("./kmdfhunt isn't built", built.launched, "kmdfhunt")
 
 
 if __name__ == "__main__":
-    main()
+    unittest.main()

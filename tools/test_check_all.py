@@ -1,5 +1,4 @@
-#!/usr/bin/env python3
-"""A test of tools/check_all.py with small made scripts: its table, its status, and that each script of its own rows is there."""
+"""Tests of tools/check_all.py with small made scripts: its table, its status, and that each script of its own rows is there."""
 
 import contextlib
 import io
@@ -7,8 +6,9 @@ import os
 import re
 import sys
 import tempfile
+import unittest
+from unittest import mock
 
-sys.dont_write_bytecode = True
 import check_all
 
 SCRIPTS = {
@@ -22,42 +22,51 @@ LACKS = ("lacks", "good.py P", "no-such-command")
 LONGER = ("longer", "good.py", None)
 
 
-def ends(rows, *words):
-    """How check_all ends with these rows and words, and its table but for the seconds."""
-    out, check_all.ROWS, check_all.LONG = io.StringIO(), rows, (LONGER,)
-    sys.argv = ["check_all.py", "--program", sys.executable, *words]
-    status = None
-    with contextlib.redirect_stdout(out), contextlib.redirect_stderr(io.StringIO()):
-        try:
-            check_all.main()
-        except SystemExit as end:
-            status = end.code
-    return status, [" ".join(re.sub(r" \d+ s ", " ", line).split()) for line in out.getvalue().splitlines()]
-
-
-def main():
-    wrong = [f"no {row[1].split()[0]}" for row in check_all.ROWS + check_all.LONG if check_all.lacking(row[1], None)]
-    with tempfile.TemporaryDirectory() as room:
-        check_all.ROOT = tempfile.tempdir = room
+class Table(unittest.TestCase):
+    def setUp(self):
+        room = tempfile.TemporaryDirectory()
+        self.addCleanup(room.cleanup)
         for name, text in SCRIPTS.items():
-            with open(os.path.join(room, name), "w", encoding="ascii") as file:
+            with open(os.path.join(room.name, name), "w", encoding="ascii") as file:
                 file.write(text)
-        said = ends((GOOD, GONE, LACKS))
-        if said != (0, ["good well all of 2 well", "gone left out no gone.py", "lacks left out no `no-such-command` on the PATH"]):
-            wrong.append(f"rows that are well or left out: {said}")
-        status, table = ends((GOOD, BAD))
-        if status != 1 or not table[1].startswith("bad NOT WELL one is wrong ("):
-            wrong.append(f"a row that isn't well: {status} {table}")
-        said = ends((GOOD, BAD), "good")
-        if said != (0, ["good well all of 2 well"]):
-            wrong.append(f"one row alone: {said}")
-        status, table = ends((GOOD,), "--long")
-        if status != 0 or [line.split()[0] for line in table] != ["good", "longer"]:
-            wrong.append(f"the long rows: {status} {table}")
-        if ends((GOOD,), "goods")[0] == 0:
-            wrong.append("a row that isn't there")
-    sys.exit("\n".join(wrong) if wrong else 0)
+        for place, name, value in ((check_all, "ROOT", room.name), (check_all, "LONG", (LONGER,)), (tempfile, "tempdir", room.name)):
+            patch = mock.patch.object(place, name, value)
+            patch.start()
+            self.addCleanup(patch.stop)
+
+    def ends(self, rows, *words):
+        """How check_all ends with these rows and words, and its table but for the seconds."""
+        out, given = io.StringIO(), ["check_all.py", "--program", sys.executable, *words]
+        with mock.patch.object(check_all, "ROWS", rows), mock.patch.object(sys, "argv", given), self.assertRaises(SystemExit) as end:
+            with contextlib.redirect_stdout(out), contextlib.redirect_stderr(io.StringIO()):
+                check_all.main()
+        return end.exception.code, [" ".join(re.sub(r" \d+ s ", " ", line).split()) for line in out.getvalue().splitlines()]
+
+    def test_rows_that_are_well_or_left_out(self):
+        table = ["good well all of 2 well", "gone left out no gone.py", "lacks left out no `no-such-command` on the PATH"]
+        self.assertEqual(self.ends((GOOD, GONE, LACKS)), (0, table))
+
+    def test_a_row_that_is_not_well(self):
+        status, table = self.ends((GOOD, BAD))
+        self.assertEqual(status, 1)
+        self.assertRegex(table[1], r"^bad NOT WELL one is wrong \(")
+
+    def test_one_row_alone(self):
+        self.assertEqual(self.ends((GOOD, BAD), "good"), (0, ["good well all of 2 well"]))
+
+    def test_the_long_rows(self):
+        status, table = self.ends((GOOD,), "--long")
+        self.assertEqual((status, [line.split()[0] for line in table]), (0, ["good", "longer"]))
+
+    def test_a_row_that_is_not_there(self):
+        self.assertEqual(self.ends((GOOD,), "goods")[0], 2)
+
+
+class Rows(unittest.TestCase):
+    def test_each_script_is_there(self):
+        for _, command, _ in check_all.ROWS + check_all.LONG:
+            self.assertIsNone(check_all.lacking(command, None))
 
 
 if __name__ == "__main__":
-    main()
+    unittest.main()

@@ -1,17 +1,16 @@
-#!/usr/bin/env python3
-"""A test of tools/doc_names.py over a small made tree: what is found to name nothing, and that nothing else is."""
+"""Tests of tools/doc_names.py over a small made tree: what is found to name nothing, and that nothing else is."""
 
-import sys
 import tempfile
+import unittest
 from pathlib import Path
 
-sys.dont_write_bytecode = True
 import doc_names
 
 FILES = {
     "crates/wdf_text/src/lib.rt": "//! Text.\npub fn small() -> u32\n    ensures little { ⊤ }\n{\n    1\n}\n",
     "crates/wdf_text/specs/Texts.antt": "-- texts\nabbrev pub text_of : ℕ\ntext_of = 0\n",
     "tools/check_all.py": "",
+    "tools/test_check_all.py": "",
     "tools/README.md": "`check_all.py` and `check_none.py`\n",
     "docs/OTHER.md": "# Other things\n\n## What `it` is\n",
 }
@@ -37,24 +36,31 @@ BAD = [
 ]
 
 
-def main():
-    wrong = []
-    with tempfile.TemporaryDirectory() as room:
-        root = Path(room)
+class Page(unittest.TestCase):
+    def setUp(self):
+        room = tempfile.TemporaryDirectory()
+        self.addCleanup(room.cleanup)
+        self.root = Path(room.name)
         for place, text in FILES.items():
-            (root / place).parent.mkdir(parents=True, exist_ok=True)
-            (root / place).write_text(text)
-        page = root / "docs/PAGE.md"
-        names = doc_names.Names(root)
-        for text, wanted in [(GOOD, []), *((GOOD + words + "\n", [(GOOD.count("\n") + 1, what)]) for words, what in BAD)]:
-            page.write_text(text)
-            found = list(doc_names.wrong_in(page, names))
-            if found != wanted:
-                wrong.append(f"wanted {wanted}, found {found}")
-        if doc_names.not_in_the_index(root) != ["check_none.py"]:
-            wrong.append(f"of the index: {doc_names.not_in_the_index(root)}")
-    sys.exit("\n".join(wrong) if wrong else 0)
+            (self.root / place).parent.mkdir(parents=True, exist_ok=True)
+            (self.root / place).write_text(text)
+
+    def wrong_in(self, text):
+        page = self.root / "docs/PAGE.md"
+        page.write_text(text)
+        return list(doc_names.wrong_in(page, doc_names.Names(self.root)))
+
+    def test_names_of_what_is_there(self):
+        self.assertEqual(self.wrong_in(GOOD), [])
+
+    def test_names_of_nothing(self):
+        for words, what in BAD:
+            with self.subTest(words=words):
+                self.assertEqual(self.wrong_in(GOOD + words + "\n"), [(GOOD.count("\n") + 1, what)])
+
+    def test_scripts_and_their_index(self):
+        self.assertEqual(doc_names.not_in_the_index(self.root), ["check_none.py"])
 
 
 if __name__ == "__main__":
-    main()
+    unittest.main()

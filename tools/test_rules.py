@@ -1,11 +1,10 @@
-#!/usr/bin/env python3
-"""A test of tools/rules.py over a small made tree: which functions, laws and wrong bodies it finds for a rule."""
+"""Tests of tools/rules.py over a small made tree: which functions, laws and wrong bodies it finds for a rule."""
 
-import sys
 import tempfile
+import unittest
 from pathlib import Path
+from unittest import mock
 
-sys.dont_write_bytecode = True
 import rules
 
 MODEL = """-- a queue
@@ -149,6 +148,19 @@ REFUSED = [
     ("which of two | takes | - | - | wdf_part::takes", "there is no function wdf_part::takes"),
     ("one part too many | takes | - | - | takes | -", "can't be read: one part too many | takes | - | - | takes | -"),
 ]
+# The files of the tree.
+TREE = {
+    "wdf_model/specs/Queues.antt": MODEL,
+    "wdf_model/specs/Others.antt": OTHERS,
+    "wdf_model/specs/Deeds.antt": DEEDS,
+    "wdf_model/src/deed.rt": DEED,
+    "law_queue/src/lib.rt": LAW,
+    "law_other/src/lib.rt": LAWS,
+    "wdf_part/src/lib.rt": PART,
+    "wdf_part/src/other.rt": FILE,
+    "wdf_part/must-fail/front_is_zero.edit": EDIT,
+    "wdf_part/wrong/other_front.edit": FILE_EDIT,
+}
 
 
 def put(path, text):
@@ -157,41 +169,37 @@ def put(path, text):
 
 
 def page_of(rules_text, then=lambda text: text):
-    """The page for a made tree, or what is made of it, or what the script says of the tree when it ends."""
-    with tempfile.TemporaryDirectory() as room:
-        rules.CRATES, rules.RULES = Path(room) / "crates", Path(room) / "rules.txt"
-        put(rules.CRATES / "wdf_model/specs/Queues.antt", MODEL)
-        put(rules.CRATES / "wdf_model/specs/Others.antt", OTHERS)
-        put(rules.CRATES / "wdf_model/specs/Deeds.antt", DEEDS)
-        put(rules.CRATES / "wdf_model/src/deed.rt", DEED)
-        put(rules.CRATES / "law_queue/src/lib.rt", LAW)
-        put(rules.CRATES / "law_other/src/lib.rt", LAWS)
-        put(rules.CRATES / "wdf_part/src/lib.rt", PART)
-        put(rules.CRATES / "wdf_part/src/other.rt", FILE)
-        put(rules.CRATES / "wdf_part/must-fail/front_is_zero.edit", EDIT)
-        put(rules.CRATES / "wdf_part/wrong/other_front.edit", FILE_EDIT)
+    """The page for a made tree, or what is made of it."""
+    with tempfile.TemporaryDirectory() as room, mock.patch.multiple(rules, CRATES=Path(room) / "crates", RULES=Path(room) / "rules.txt"):
+        for place, text in TREE.items():
+            put(rules.CRATES / place, text)
         put(rules.RULES, rules_text)
-        try:
-            return then(rules.page())
-        except SystemExit as end:
-            return str(end)
+        return then(rules.page())
 
 
-def main():
-    found = page_of(RULES).split("\n")
-    wrong = [f"not found: {line}" for line in WANTED if line not in found]
-    for rule, said in REFUSED:
-        heard = page_of(f"Queues\n{rule}\n")
-        if heard != f"rules.txt, line 2: {said}":
-            wrong.append(f"of {rule!r}: {heard}")
-    if rules.without_lines("[a](../b.rt#L12), [c](d)") != "[a](../b.rt), [c](d)":
-        wrong.append("lines of links aren't taken away")
-    for text, left in [(RULES, []), (UNNAMED, ["wdf_part/must-fail/front_is_zero.edit"])]:
-        heard = page_of(text, rules.unnamed)
-        if heard != left:
-            wrong.append(f"wrong bodies without a rule: {heard}")
-    sys.exit("\n".join([*wrong, *found]) if wrong else 0)
+class Page(unittest.TestCase):
+    maxDiff = None
+
+    def test_rows(self):
+        found = page_of(RULES).split("\n")
+        for line in WANTED:
+            with self.subTest(rule=line.split(" | ")[0]):
+                self.assertIn(line, found)
+
+    def test_what_cannot_be_written(self):
+        for rule, said in REFUSED:
+            with self.subTest(rule=rule), self.assertRaises(SystemExit) as end:
+                page_of(f"Queues\n{rule}\n")
+            with self.subTest(rule=rule):
+                self.assertEqual(str(end.exception), f"rules.txt, line 2: {said}")
+
+    def test_lines_of_links_are_taken_away(self):
+        self.assertEqual(rules.without_lines("[a](../b.rt#L12), [c](d)"), "[a](../b.rt), [c](d)")
+
+    def test_wrong_bodies_without_a_rule(self):
+        self.assertEqual(page_of(RULES, rules.unnamed), [])
+        self.assertEqual(page_of(UNNAMED, rules.unnamed), ["wdf_part/must-fail/front_is_zero.edit"])
 
 
 if __name__ == "__main__":
-    main()
+    unittest.main()

@@ -1,11 +1,10 @@
-#!/usr/bin/env python3
-"""A test of tools/trust.py over a small made tree: which definitions and types a contract needs, and what can't be read."""
+"""Tests of tools/trust.py over a small made tree: which definitions and types a contract needs, and what can't be read."""
 
-import sys
 import tempfile
+import unittest
 from pathlib import Path
+from unittest import mock
 
-sys.dont_write_bytecode = True
 import trust
 
 SERVE = """//! The program.
@@ -125,36 +124,36 @@ REFUSED = [
 
 
 def page_of(files):
-    """The page for a made tree, or what the script says of it."""
-    with tempfile.TemporaryDirectory() as room:
-        trust.CRATES, trust.GROUPS = Path(room) / "crates", GROUPS
+    """The page for a made tree."""
+    with tempfile.TemporaryDirectory() as room, mock.patch.multiple(trust, CRATES=Path(room) / "crates", GROUPS=GROUPS):
         for place, text in files.items():
             path = trust.CRATES / place
             path.parent.mkdir(parents=True, exist_ok=True)
             path.write_text(text)
-        try:
-            return trust.page()
-        except trust.Lost as lost:
-            return str(lost)
+        return trust.page()
 
 
-def main():
-    found = page_of(FILES).split("\n")
-    wrong = [f"not found: {line}" for line in WANTED if line not in found]
-    places = [found.index(line) for line in WANTED if line in found]
-    if places != sorted(places):
-        wrong.append("the rows aren't in the order of the groups")
-    if not any("libraries: `kit_words`, `std`" in line for line in found):
-        wrong.append("the kit's libraries aren't named")
-    if page_of({**FILES, "wdf_other/specs/Unneeded.antt": LISTS}).split("\n") != found:
-        wrong.append("a file that isn't needed changes the page")
-    for place, old, new, said in REFUSED:
-        heard = page_of({**FILES, place: FILES[place].replace(old, new)})
-        if said not in heard:
-            wrong.append(f"of {new!r} in {place}: {heard}")
-    trust.GROUPS = GROUPS
-    sys.exit("\n".join([*wrong, *found]) if wrong else 0)
+class Page(unittest.TestCase):
+    def setUp(self):
+        self.page = page_of(FILES)
+        self.lines = self.page.split("\n")
+
+    def test_rows_in_the_order_of_the_groups(self):
+        self.assertEqual([line for line in self.lines if line in WANTED], WANTED, self.page)
+
+    def test_libraries_of_the_kit(self):
+        self.assertIn("libraries: `kit_words`, `std`", self.page)
+
+    def test_a_file_that_is_not_needed(self):
+        self.assertEqual(page_of({**FILES, "wdf_other/specs/Unneeded.antt": LISTS}), self.page)
+
+    def test_what_cannot_be_read(self):
+        for place, old, new, said in REFUSED:
+            with self.subTest(place=place, new=new), self.assertRaises(trust.Lost) as lost:
+                page_of({**FILES, place: FILES[place].replace(old, new)})
+            with self.subTest(place=place, new=new):
+                self.assertIn(said, str(lost.exception))
 
 
 if __name__ == "__main__":
-    main()
+    unittest.main()

@@ -1,8 +1,7 @@
-#!/usr/bin/env python3
-"""A test of `unused_imports.py`: it takes away what nothing names, and leaves what a line names as a word, as an operator, by its new name,
+"""Tests of `unused_imports.py`: it takes away what nothing names, and leaves what a line names as a word, as an operator, by its new name,
 or for others; a comment names nothing. Of code also traits are left, and the end of a range names what it is."""
 
-import sys
+import unittest
 
 from unused_imports import code_without_unused, without_unused
 
@@ -31,18 +30,19 @@ CODE_CASES = [
 ]
 
 
-def main():
-    wrong = 0
-    for text, left, unused in CASES:
-        if without_unused(text) != (text if left is None else left, unused):
-            print(f"test_unused_imports: wrong: {text!r} gives {without_unused(text)}")
-            wrong += 1
-    for text, left, unused in CODE_CASES:
-        if code_without_unused(text, {"Draw"}) != (text if left is None else left, unused):
-            print(f"test_unused_imports: wrong: {text!r} gives {code_without_unused(text, {'Draw'})}")
-            wrong += 1
-    sys.exit(1 if wrong else 0)
+class Imports(unittest.TestCase):
+    maxDiff = None
+
+    def test_of_definitions_and_proofs(self):
+        for text, left, unused in CASES:
+            with self.subTest(text=text):
+                self.assertEqual(without_unused(text), (text if left is None else left, unused))
+
+    def test_of_code(self):
+        for text, left, unused in CODE_CASES:
+            with self.subTest(text=text):
+                self.assertEqual(code_without_unused(text, {"Draw"}), (text if left is None else left, unused))
 
 
 if __name__ == "__main__":
-    main()
+    unittest.main()

@@ -1,13 +1,12 @@
-#!/usr/bin/env python3
-"""A test of tools/wrong_bodies.py over a small made tree: which wrong bodies can be applied, and why others can't."""
+"""Tests of tools/wrong_bodies.py over a small made tree: which wrong bodies can be applied, and why others can't."""
 
 import contextlib
 import io
-import sys
 import tempfile
+import unittest
 from pathlib import Path
+from unittest import mock
 
-sys.dont_write_bytecode = True
 import wrong_bodies
 
 CODE = "fn one() -> u32 {\n    1\n}\n\nfn two() -> u32 {\n    one() + 1\n}\n"
@@ -21,33 +20,35 @@ EDITS = {
 }
 
 
-def main():
-    wrong = []
-    with tempfile.TemporaryDirectory() as room:
-        wrong_bodies.ROOT = Path(room)
-        wrong_bodies.CRATES = wrong_bodies.ROOT / "crates"
-        folder = wrong_bodies.CRATES / "wdf_part"
+class Edits(unittest.TestCase):
+    def setUp(self):
+        room = tempfile.TemporaryDirectory()
+        self.addCleanup(room.cleanup)
+        self.folder = Path(room.name) / "crates/wdf_part"
         for place, text in {"src/lib.rt": CODE, **{name: told for name, (told, _) in EDITS.items()}}.items():
-            (folder / place).parent.mkdir(parents=True, exist_ok=True)
-            (folder / place).write_text(text)
-        for name, (_, wanted) in EDITS.items():
-            found = wrong_bodies.why_not_applied(folder, folder / name)
-            if found != wanted:
-                wrong.append(f"of {name}: {found}")
+            (self.folder / place).parent.mkdir(parents=True, exist_ok=True)
+            (self.folder / place).write_text(text)
+        patch = mock.patch.multiple(wrong_bodies, ROOT=Path(room.name), CRATES=Path(room.name) / "crates")
+        patch.start()
+        self.addCleanup(patch.stop)
+
+    def test_which_can_be_applied(self):
+        for name, (_, why) in EDITS.items():
+            with self.subTest(name=name):
+                self.assertEqual(wrong_bodies.why_not_applied(self.folder, self.folder / name), why)
+
+    def test_a_look_at_all(self):
         said = io.StringIO()
         with contextlib.redirect_stdout(said):
-            failed = wrong_bodies.look(["wdf_part"])
-        if failed != 3 or said.getvalue().count("can't be applied") != 3:
-            wrong.append(f"look found {failed}: {said.getvalue()}")
-        (folder / "wrong/odd.edit").write_text("file: src/lib.rt\nis: 1\n")
-        try:
-            wrong_bodies.why_not_applied(folder, folder / "wrong/odd.edit")
-            wrong.append("a line of another form was read")
-        except SystemExit as end:
-            if "line 2: can't be read: is: 1" not in str(end):
-                wrong.append(str(end))
-    sys.exit("\n".join(wrong) if wrong else 0)
+            self.assertEqual(wrong_bodies.look(["wdf_part"]), 3)
+        self.assertEqual(said.getvalue().count("can't be applied"), 3)
+
+    def test_a_line_of_another_form(self):
+        (self.folder / "wrong/odd.edit").write_text("file: src/lib.rt\nis: 1\n")
+        with self.assertRaises(SystemExit) as end:
+            wrong_bodies.why_not_applied(self.folder, self.folder / "wrong/odd.edit")
+        self.assertIn("line 2: can't be read: is: 1", str(end.exception))
 
 
 if __name__ == "__main__":
-    main()
+    unittest.main()
