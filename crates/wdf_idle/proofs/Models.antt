@@ -1,21 +1,24 @@
 -- The agents of a run in which idle devices sleep are the model's: each variant is the model's of the same name.
-use Rattle.std.proofs.Common.{◌≡◌, ◌==◌, ℕ, Bool, true, false, refl, ap}
+use Rattle.std.proofs.Common.{if◌then◌else◌, ◌≡◌, ◌==◌, ℕ, Bool, true, false, refl, ap, ◌∙◌}
 use Rattle.wdf_base.specs.declared.plan.Plan.{Plan}
 use Rattle.wdf_base.specs.declared.event.Event.{Event}
+use Rattle.wdf_model.specs.agents.IdlePolicy.{IdlePolicy, policy_at}
 use Rattle.wdf_model.specs.agents.IdleAgent as model
 use Rattle.inv_meanings.specs.Tied.{IsTied}
+use Rattle.wdf_dev.specs.declared.any.AnyAgent.{AnyAgent}
+use Rattle.wdf_dev.specs.Agents as dev
 use Rattle.wdf_dev.proofs.Models as usual
 use Rattle.wdf_idle.specs.Agents.{as_model, idle_agent_after, idle_agent_at, idle_agent_due, idle_agent_next, idle_agent_value, idle_meaning}
 use Rattle.wdf_idle.specs.declared.idle_agent.IdleAgent.{IdleAgent}
 use Rattle.wdf_idle.specs.declared.idle_agent.IdleAgent.TheVariants as agent
 
-begins_by : (plan : Plan) (k : ℕ) (first : Bool) → (k == 0) ≡ first → as_model (idle_agent_at plan k) ≡ model.idle_agent_at plan k
-begins_by plan k true e = rw e refl
-begins_by plan k false e = rw e (ap model.Usual (usual.begins plan k))
+chosen : (first : Bool) (p : IdlePolicy) (a : AnyAgent) → as_model (if first then agent.Policy p else agent.Usual a) ≡ (if first then model.Policy p else model.Usual (dev.as_model a))
+chosen true p a = refl
+chosen false p a = refl
 
 -- an agent begins as the model's with its number
 pub begins : (plan : Plan) (k : ℕ) → as_model (idle_agent_at plan k) ≡ model.idle_agent_at plan k
-begins plan k = begins_by plan k (k == 0) refl
+begins plan k = chosen (k == 0) (policy_at plan) (dev.agent_at plan k) ∙ ap (λ a. if k == 0 then model.Policy (policy_at plan) else model.Usual a) (usual.begins plan k)
 
 -- it hears of an event as that does
 pub folds : (a : IdleAgent) (e : Event) → as_model (idle_agent_after a e) ≡ model.idle_agent_after (as_model a) e
