@@ -1,5 +1,5 @@
 -- Tied meanings are equal, along the equality of their types that the tie gives. So what holds of one holds of the other.
-use Rattle.std.proofs.Common.{◌≡◌, ℕ, List, refl, sym, ap, ◌∙◌, subst}
+use Rattle.std.proofs.Common.{◌≡◌, ℕ, refl, sym, ap, ◌∙◌, subst}
 use mathlib.Core.Path.{transport, transport_refl, path_j}
 use mathlib.Core.Equiv.{◌≃◌, iso_to_equiv}
 use Rattle.wdf_base.specs.Meaning.{Meaning}

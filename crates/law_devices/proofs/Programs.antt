@@ -1,11 +1,12 @@
 -- The agents of the program, of its idle runs and of its stacks have the devices of the machine's definitions.
-use Rattle.std.proofs.Common.{◌≡◌, ◌+◌, ◌-◌, ◌==◌, nat_lt, ℕ, Bool, true, false, ◌&&◌, length, slice_get, Some, None, refl, ap, arith}
+use Rattle.std.proofs.Common.{if◌then◌else◌, true≢false, ◌∙◌, Option, ◌≡◌, ◌+◌, ◌-◌, ◌==◌, nat_lt, ℕ, Bool, true, false, ◌&&◌, length, slice_get, Some, None, refl, ap, arith}
 use Rattle.std.proofs.lemmas.Bool.{lt-ltb, ltb-false}
 use Rattle.std.proofs.lemmas.Bool.Decides.{nat_tests}
 use Rattle.std.proofs.lemmas.Option.{slice_get_within}
 use Rattle.wdf_base.specs.declared.plan.Plan.{Plan}
 use Rattle.wdf_base.specs.declared.event.Event.{Event}
 use Rattle.wdf_model.specs.Plans.{device_of_agent, devices_of, first_device_agent, is_app, target_of_agent}
+use Rattle.wdf_model.specs.agents.StackManager.{stack_manager_at}
 use Rattle.wdf_model.specs.agents.Device.{Device, device_after, device_at, device_due, device_value}
 use Rattle.wdf_dev.specs.Agents as usual
 use Rattle.wdf_dev.specs.declared.any.AnyAgent.{AnyAgent}
@@ -86,11 +87,16 @@ no_target_by plan k d false e h =
     let early : nat_lt k (first_device_agent plan + length (devices_of plan)) ≡ true = lt-ltb k (first_device_agent plan + length (devices_of plan)) (omega (arith, from, less)) in
     rw early refl
 
+as_usual : (plan : Plan) (k : ℕ) (first : Bool) (t : Option ℕ) → first ≡ false → t ≡ None
+    → stack_device (if first then stack.StackManager (stack_manager_at plan) else stacks.target_or_usual plan k t) ≡ usual_device (usual.agent_at plan k)
+as_usual plan k false None e f = refl
+as_usual plan k false (Some x) e f = absurd (let z : ⊥ = cc in z)
+as_usual plan k true t e f = absurd (true≢false e)
+
 stack_begins : (plan : Plan) (k d : ℕ) → device_of_agent plan k ≡ Some d → stack_device (stacks.stack_agent_at plan k) ≡ Some (device_at plan d k)
 stack_begins plan k d own =
-    let l = late plan k d own in
-    let none : target_of_agent plan k ≡ None = no_target_by plan k d (nat_lt k (first_device_agent plan)) refl own in
-    rw (l.0, none) (usual_begins plan k d own)
+    as_usual plan k (k == 0) (target_of_agent plan k) (late plan k d own).0 (no_target_by plan k d (nat_lt k (first_device_agent plan)) refl own)
+    ∙ usual_begins plan k d own
 
 stack_hears : (a : StackAgent) (h : Device) (e : Event) → stack_device a ≡ Some h → stack_device (stacks.stack_agent_after a e) ≡ Some (device_after h e)
 stack_hears (stack.Usual a) h e is = usual_hears a h e is

@@ -1,12 +1,13 @@
 -- The agents of the program that are targets: those of every run, those where idle devices sleep, and in stacks those that aren't
 -- connected.
-use Rattle.std.proofs.Common.{◌≡◌, ℕ, ◌+◌, ◌-◌, ◌==◌, ◌≤◌, nat_lt, Bool, true, false, ◌&&◌, length, Option, Some, None, slice_get, refl, ap, ◌∙◌, arith}
+use Rattle.std.proofs.Common.{if◌then◌else◌, true≢false, ◌≡◌, ℕ, ◌+◌, ◌-◌, ◌==◌, ◌≤◌, nat_lt, Bool, true, false, ◌&&◌, length, Option, Some, None, slice_get, refl, ap, ◌∙◌, arith}
 use Rattle.std.proofs.lemmas.Bool.{ltb-false, ltb-true}
 use Rattle.std.proofs.lemmas.Option.{same_Some, slice_get_past}
 use Rattle.wdf_base.specs.declared.event.Event.{Event}
 use Rattle.wdf_base.specs.declared.plan.Plan.{Plan}
 use Rattle.wdf_model.specs.Plans.{device_of_agent, devices_of, first_device_agent, is_app, target_of_agent}
 use Rattle.wdf_model.specs.agents.Chains.{connected_to}
+use Rattle.wdf_model.specs.agents.StackManager.{stack_manager_at}
 use Rattle.wdf_model.specs.agents.LowerTarget.{LowerTarget, target_after, target_at, target_due}
 use Rattle.wdf_model.proofs.Counts.{not_equal}
 use Rattle.wdf_model.proofs.Tests.{right_fails}
@@ -105,8 +106,21 @@ level_due : (a : StackAgent) (u : LowerTarget) → seen_level a ≡ Some u → s
 level_due (level.Usual a) u h = seen_due a u h
 level_due _ u h = absurd (let z : ⊥ = cc in z)
 
+by_connection : (plan : Plan) (k t : ℕ) (o : Option ℕ) → o ≡ None → seen_level (stack.connector_or_usual plan k t o) ≡ seen (usual.agent_at plan k)
+by_connection plan k t None e = refl
+by_connection plan k t (Some lower) e = absurd (let z : ⊥ = cc in z)
+
+by_target : (plan : Plan) (k t : ℕ) (o : Option ℕ) → o ≡ Some t → connected_to plan t ≡ None → seen_level (stack.target_or_usual plan k o) ≡ seen (usual.agent_at plan k)
+by_target plan k t (Some u) e alone = by_connection plan k u (connected_to plan u) (ap (connected_to plan) (same_Some u t e) ∙ alone)
+by_target plan k t None e alone = absurd (let z : ⊥ = cc in z)
+
+by_number : (plan : Plan) (k t : ℕ) (first : Bool) → first ≡ false → target_of_agent plan k ≡ Some t → connected_to plan t ≡ None
+    → seen_level (if first then level.StackManager (stack_manager_at plan) else stack.target_or_usual plan k (target_of_agent plan k)) ≡ seen (usual.agent_at plan k)
+by_number plan k t false e h alone = by_target plan k t (target_of_agent plan k) h alone
+by_number plan k t true e h alone = absurd (true≢false e)
+
 level_begins : (plan : Plan) (k t : ℕ) → target_of_agent plan k ≡ Some t → connected_to plan t ≡ None → seen_level (stack.stack_agent_at plan k) ≡ Some (target_at plan t k)
-level_begins plan k t h alone = let l = last plan k t h in rw (l.zeroth, h, alone) (ap seen (begins_as plan k t h))
+level_begins plan k t h alone = by_number plan k t (k == 0) (last plan k t h).zeroth h alone ∙ ap seen (begins_as plan k t h)
 
 pub stack_target : (plan : Plan) (k t : ℕ) → target_of_agent plan k ≡ Some t → connected_to plan t ≡ None → IsTargetAgent plan stack.stack_meaning k t
 stack_target plan k t h alone = record { number = h; seen = seen_level; begins = level_begins plan k t h alone; hears = level_after; posts = level_due }
