@@ -13,7 +13,7 @@ pub data RunAgents : Type 0 where
   -- the same, with the stack manager in that place, and a connector for each target that is connected to a device
   Stacked : RunAgents
 
--- their Rust type
+-- what is kept of an agent
 abbrev pub AgentOf : RunAgents → Type 0
 AgentOf Usual = AnyAgent
 AgentOf Idle = IdleAgent
