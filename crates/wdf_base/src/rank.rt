@@ -95,7 +95,7 @@ const PASSIVE: CallbackLevel = CallbackLevel::Level(Irql(0));
 const DISPATCH: CallbackLevel = CallbackLevel::Level(Irql(2));
 
 /// A row, of its four parts.
-fn row(rank: Rank, owner: Owner, level: CallbackLevel, lock: CallbackLock) -> CallbackRow
+fn callback_row(rank: Rank, owner: Owner, level: CallbackLevel, lock: CallbackLock) -> CallbackRow
     ensures { result ≡ table.callback_row rank owner level lock }
 {
     CallbackRow {
@@ -110,7 +110,7 @@ fn row(rank: Rank, owner: Owner, level: CallbackLevel, lock: CallbackLock) -> Ca
 fn of_interrupt(rank: Rank) -> CallbackRow
     ensures { result ≡ table.callback_row rank (owners.Of kinds.Interrupt) levels.OfInterrupt locks.InterruptLock }
 {
-    row(
+    callback_row(
         rank,
         Owner::Of(Kind::Interrupt),
         CallbackLevel::OfInterrupt,
@@ -122,7 +122,7 @@ fn of_interrupt(rank: Rank) -> CallbackRow
 fn of_queue(rank: Rank) -> CallbackRow
     ensures { result ≡ table.callback_row rank (owners.Of kinds.Queue) levels.OfQueue locks.QueueLock }
 {
-    row(
+    callback_row(
         rank,
         Owner::Of(Kind::Queue),
         CallbackLevel::OfQueue,
@@ -134,7 +134,7 @@ fn of_queue(rank: Rank) -> CallbackRow
 fn of_device(rank: Rank) -> CallbackRow
     ensures { result ≡ table.callback_row rank (owners.Of kinds.Device) (levels.Level (record { 0 = 0 })) locks.NoLock }
 {
-    row(rank, Owner::Of(Kind::Device), PASSIVE, CallbackLock::NoLock)
+    callback_row(rank, Owner::Of(Kind::Device), PASSIVE, CallbackLock::NoLock)
 }
 
 impl Callback {
@@ -151,10 +151,10 @@ impl Callback {
         };
         match self {
             Self::EvtInterruptIsr => of_interrupt(Isr),
-            Self::EvtDpcFunc => row(Deferred, Of(Dpc), DISPATCH, ParentScope),
-            Self::EvtInterruptDpc => row(Deferred, Of(Interrupt), DISPATCH, NoLock),
-            Self::EvtTimerFunc => row(Timed, Of(Timer), DISPATCH, ParentScope),
-            Self::EvtRequestCompletion => row(Completion, Of(Target), DISPATCH, NoLock),
+            Self::EvtDpcFunc => callback_row(Deferred, Of(Dpc), DISPATCH, ParentScope),
+            Self::EvtInterruptDpc => callback_row(Deferred, Of(Interrupt), DISPATCH, NoLock),
+            Self::EvtTimerFunc => callback_row(Timed, Of(Timer), DISPATCH, ParentScope),
+            Self::EvtRequestCompletion => callback_row(Completion, Of(Target), DISPATCH, NoLock),
             Self::EvtRequestCancel => of_queue(Cancel),
             Self::EvtIoCanceledOnQueue => of_queue(CanceledOnQueue),
             Self::EvtIoStop => of_queue(Stop),
@@ -180,9 +180,9 @@ impl Callback {
             Self::EvtDeviceSurpriseRemoval => of_device(Sequence),
             Self::EvtInterruptEnable => of_interrupt(Sequence),
             Self::EvtInterruptDisable => of_interrupt(Sequence),
-            Self::EvtWorkItem => row(Work, Of(WorkItem), PASSIVE, ParentScope),
-            Self::EvtCleanupCallback => row(Cleanup, ClassOrDevice, PASSIVE, NoLock),
-            Self::EvtDestroyCallback => row(Destroy, ClassOrDevice, PASSIVE, NoLock),
+            Self::EvtWorkItem => callback_row(Work, Of(WorkItem), PASSIVE, ParentScope),
+            Self::EvtCleanupCallback => callback_row(Cleanup, ClassOrDevice, PASSIVE, NoLock),
+            Self::EvtDestroyCallback => callback_row(Destroy, ClassOrDevice, PASSIVE, NoLock),
         }
     }
 

@@ -16,7 +16,7 @@ impl<A: Agent> Parts<A> {
     fn front(&self, q: ObjectId) -> Option<ObjectId>
         ensures { option_map (λ r. r.0) result ≡ queues.front self.now.queues q.0 }
     {
-        self.queues.front(q)
+        self.queues.head(q)
     }
 
     /// A control call of a queue.

@@ -30,7 +30,7 @@ impl<A: Agent> Parts<A> {
     pub fn is_powered(&self, plan: &IndexedPlan, q: ObjectId) -> bool
         ensures { result ≡ state.is_powered plan.now self.now q.0 }
     {
-        !plan.is_managed(q) || self.power.queues_up(plan.device_of_queue(q))
+        !plan.is_managed(q) || self.power.up(plan.device_of_queue(q))
     }
 
     /// Whether a queue delivers, by its mode and by power. (KMDF)

@@ -64,7 +64,7 @@ fn flush_cause<A: Agent>(plan: &IndexedPlan, parts: &Parts<A>, o: ObjectId) -> O
     if let Some(frame) = by_frame_on(parts, o) {
         return Some(frame);
     }
-    if parts.work_items().is_work_queued(o) {
+    if parts.work_items().queued(o) {
         return Some(Cause::ByWork {
             work: parts.handle_in(plan, o),
         });

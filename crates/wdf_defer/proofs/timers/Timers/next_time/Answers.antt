@@ -3,7 +3,7 @@ use Rattle.std.proofs.Common.{◌≡◌, ◌+◌, Some, [], drop, sym, ap, ◌�
 use Rattle.wdf_defer.specs.Ticks.{earlier, earliest_of}
 use Rattle.wdf_defer.proofs.LeastTick.{in_turn, least_is, none_later}
 use Rattle.wdf_defer.proofs.TimersOfSet.{drop_all, drop_at}
-use Rattle.wdf_defer.proofs.timers.Timers.next_timer.Goals as goal
+use Rattle.wdf_defer.proofs.timers.Timers.next_time.Goals as goal
 
 pub loop-place-preserved : goal.loop-place-preserved
 loop-place-preserved c =

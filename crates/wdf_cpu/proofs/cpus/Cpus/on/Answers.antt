@@ -3,7 +3,7 @@ use Rattle.std.proofs.Common.{sym, ◌∙◌}
 use Rattle.std.proofs.lemmas.List.Sums.{length-filter}
 use Rattle.wdf_model.specs.parts.Cpus.{all_frames, is_on}
 use Rattle.wdf_cpu.specs.Kept.{cpus_in}
-use Rattle.wdf_cpu.proofs.cpus.Cpus.frames_on.Goals as goal
+use Rattle.wdf_cpu.proofs.cpus.Cpus.on.Goals as goal
 
 pub returns-then-o-lt-OBJECTS : goal.returns-then-o-lt-OBJECTS
 returns-then-o-lt-OBJECTS c =
