@@ -1,19 +1,19 @@
 -- The agents at the opening: a connector for each connected target, and no other agent has one.
-use Rattle.std.proofs.Common.{◌≡◌, ℕ, zero, suc, ◌+◌, ◌-◌, ◌==◌, ◌<◌, ◌≤◌, nat_lt, Bool, true, false, List, [], ◌⊎◌, inl, inr, length, map, Option, Some, None, option_map, option_and_then, unwrap_or, slice_get, refl, sym, ap, subst, ◌∙◌, arith}
+use Rattle.std.proofs.Common.{if◌then◌else◌, ◌≡◌, ℕ, zero, suc, ◌+◌, ◌-◌, ◌==◌, ◌<◌, ◌≤◌, Bool, true, false, List, [], ◌⊎◌, inl, inr, length, map, Option, Some, None, option_map, option_and_then, unwrap_or, refl, sym, ap, subst, ◌∙◌, arith}
 use Rattle.std.specs.List.{range_with_len}
-use Rattle.std.proofs.lemmas.Bool.{cases_lt, eqb-true, lt-ltb, ltb-false, ltb-true}
-use Rattle.std.proofs.lemmas.Option.{slice_get_past, slice_get_within}
+use Rattle.std.proofs.lemmas.Bool.{cases_lt, eqb-true}
+use Rattle.std.proofs.lemmas.Option.{slice_get_past}
 use Rattle.wdf_base.specs.Meaning.{Meaning}
 use Rattle.wdf_base.specs.declared.plan.Plan.{Plan}
 use Rattle.wdf_base.specs.declared.declared.TargetInfo.{TargetInfo}
 use Rattle.wdf_model.specs.Tables.{entry}
-use Rattle.wdf_model.specs.Plans.{as_target, device_of_agent, devices_of, first_device_agent, is_app, target_of, target_of_agent}
+use Rattle.wdf_model.specs.Plans.{as_target, target_of, target_of_agent}
 use Rattle.wdf_model.specs.parts.Targets.{Target, no_target, opening_target, opening_targets, the_target}
 use Rattle.wdf_model.specs.State.{State, opening}
 use Rattle.wdf_model.specs.agents.Chains.{connected_to}
 use Rattle.wdf_model.specs.agents.Connector.{connector_at}
 use Rattle.wdf_model.specs.agents.StackAgent as stack
-use Rattle.wdf_model.proofs.Tests.{both_right}
+use Rattle.wdf_model.specs.agents.StackManager.{stack_manager_at}
 use Rattle.law_stack.specs.Words.{Passing, connector_of, if_connected, passings}
 use Rattle.law_stack.proofs.Connectors.{AgentKept, IsKept}
 use Rattle.law_stack.proofs.Held.{IsThere}
@@ -86,9 +86,9 @@ module _ {A : Type 0} (plan : Plan) (m : Meaning A) where
   owned_opens k (Some t) f = target_opens k t (connected_to plan t) refl f
   owned_opens k None f = ap (option_and_then (if_connected plan)) f
 
-  opens_by : (k : ℕ) (first : Bool) → (k == 0) ≡ first → AgentKept plan [] start k (stack.stack_agent_at plan k)
-  opens_by k true e = let none = no_target_before plan k (let z : k ≡ 0 = eqb-true k 0 e in omega (arith, z)) in rw e none
-  opens_by k false e = rw e (owned_opens k (target_of_agent plan k) refl)
+  opens_by : (k : ℕ) (first : Bool) → (k == 0) ≡ first → AgentKept plan [] start k (if first then stack.StackManager (stack_manager_at plan) else stack.target_or_usual plan k (target_of_agent plan k))
+  opens_by k true e = no_target_before plan k (let z : k ≡ 0 = eqb-true k 0 e in omega (arith, z))
+  opens_by k false e = owned_opens k (target_of_agent plan k) refl
 
   pub agent_opens : (k : ℕ) → AgentKept plan [] start k (stack.stack_agent_at plan k)
   agent_opens k = opens_by k (k == 0) refl

@@ -3,21 +3,16 @@ use Rattle.std.proofs.Common.{◌≡◌, ℕ, true, List, take, Some, slice_get,
 use Rattle.wdf_base.specs.Resolved.{IsResolved}
 use Rattle.wdf_base.specs.declared.plan.Plan.{Plan}
 use Rattle.wdf_base.specs.declared.event.Event.{Event}
-use Rattle.wdf_model.specs.agents.StackAgent as model
 use Rattle.wdf_model.specs.rules.Ready.{IsRunOf}
 use Rattle.wdf_model.proofs.Tests.{both}
-use Rattle.wdf_stack.specs.Agents.{as_model, stack_meaning}
-use Rattle.wdf_stack.proofs.Models.{begins, dues, folds}
+use Rattle.wdf_model.specs.agents.StackAgent.{stack_meaning}
 use Rattle.law_stack.specs.Agents.{IsStackMeaning}
 use Rattle.law_stack.specs.Laws.{order_law, request_law, stack_law}
 use Rattle.law_stack.proofs.Ordered.{order_at}
 use Rattle.law_stack.proofs.Requests.{requests_keep}
 
 pub stack_agents_are : IsStackMeaning stack_meaning
-stack_agents_are = record { seen = as_model; begins = begins; folds = folds; dues = dues }
-
-pub model_agents_are : IsStackMeaning model.stack_agents
-model_agents_are = record { seen = λ a. a; begins = λ plan k. refl; folds = λ a e. refl; dues = λ a. refl }
+stack_agents_are = record { seen = λ a. a; begins = λ plan k. refl; folds = λ a e. refl; dues = λ a. refl }
 
 pub stack_runs_keep_laws : (plan : Plan) (run : List Event) (k : ℕ) (e : Event) → IsResolved plan → IsRunOf plan stack_meaning run → slice_get run k ≡ Some e → stack_law plan (take k run) e ≡ true
 stack_runs_keep_laws plan run k e resolved is_run at =

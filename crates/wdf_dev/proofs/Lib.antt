@@ -1,5 +1,4 @@
 pub mod Acting
 pub mod Gathering
 pub mod Mapping
-pub mod Models
 pub mod Owning

@@ -3,8 +3,8 @@ ghost use Rattle.std.specs.List.{range_with_len};
 ghost use Rattle.wdf_model.specs.Plans as plans;
 ghost use Rattle.wdf_model.specs.Plans.{devices_of, targets_of};
 ghost use Rattle.wdf_model.specs.agents.Chains as chains;
-ghost use Rattle.wdf_stack.specs.Agents as stack;
-ghost use Rattle.wdf_stack.specs.Agents.{stack_agent_at, stack_meaning};
+ghost use Rattle.wdf_model.specs.agents.StackAgent as stack;
+ghost use Rattle.wdf_model.specs.agents.StackAgent.{stack_agent_at, stack_meaning};
 ghost use Rattle.wdf_plan_index.specs.Owners.{names_of};
 ghost use Rattle.wdf_plan_index.specs.declared.owners.Owner.TheVariants as owner;
 
@@ -12,13 +12,14 @@ use crate::chains::connected_to;
 use crate::connector::Connector;
 use crate::stack_manager::StackManager;
 use std::alloc::Global;
+use std::marker::Model;
 use wdf_base::{Agent, Event, Memory, ObjectId, Plan, Post};
 use wdf_dev::{AnyAgent, agent_of, agents_before_devices};
 use wdf_plan_index::{Owner, ids_of};
 
-/// An agent of a run with stacks of devices, of any kind.
+/// What an agent of a run with stacks of devices is.
 #[derive(Drop)]
-pub enum StackAgent {
+enum StackRole {
     /// The stack manager, in the place of the Plug and Play manager.
     StackManager(StackManager),
     /// A connected target.
@@ -27,38 +28,53 @@ pub enum StackAgent {
     Usual(AnyAgent),
 }
 
+/// An agent of a run with stacks of devices, of any kind. To a clause it is that agent of the machine's definitions.
+#[derive(Drop)]
+pub struct StackAgent {
+    role: StackRole,
+}
+
+impl Model for StackAgent {
+    ghost use Rattle.wdf_model.specs.agents.StackAgent.{StackAgent};
+    ghost use Rattle.wdf_stack.specs.Roles.{agent_of_role};
+
+    ghost Value = { StackAgent };
+
+    ghost view = { λ a. agent_of_role a.role };
+}
+
 impl Agent for StackAgent {
-    ghost use Rattle.wdf_stack.specs.Agents.{stack_meaning};
+    ghost use Rattle.wdf_model.specs.agents.StackAgent.{stack_meaning};
 
     ghost meaning = { stack_meaning };
 
     fn feed(&mut self, event: &Event) {
-        match self {
-            StackAgent::StackManager(manager) => manager.feed(event),
-            StackAgent::Connector(connector) => connector.feed(event),
-            StackAgent::Usual(agent) => agent.feed(event),
+        match &mut self.role {
+            StackRole::StackManager(manager) => manager.feed(event),
+            StackRole::Connector(connector) => connector.feed(event),
+            StackRole::Usual(agent) => agent.feed(event),
         }
     }
 
     fn due(&self) -> Option<Post> {
-        match self {
-            StackAgent::StackManager(manager) => manager.due(),
-            StackAgent::Connector(connector) => connector.due(),
-            StackAgent::Usual(agent) => agent.due(),
+        match &self.role {
+            StackRole::StackManager(manager) => manager.due(),
+            StackRole::Connector(connector) => connector.due(),
+            StackRole::Usual(agent) => agent.due(),
         }
     }
 
     fn next_time(&self) -> Option<u64> {
-        match self {
-            StackAgent::StackManager(manager) => manager.next_time(),
-            StackAgent::Connector(_) => None,
-            StackAgent::Usual(agent) => agent.next_time(),
+        match &self.role {
+            StackRole::StackManager(manager) => manager.next_time(),
+            StackRole::Connector(_) => None,
+            StackRole::Usual(agent) => agent.next_time(),
         }
     }
 
     fn value(&self, what: u32) -> u64 {
-        match self {
-            StackAgent::Usual(agent) => agent.value(what),
+        match &self.role {
+            StackRole::Usual(agent) => agent.value(what),
             _ => 0,
         }
     }
@@ -105,11 +121,15 @@ fn connector_or_usual(
         Some(lower) => {
             let first = agents_before_devices(plan, devices, targets);
             let connector = Connector::make(alloc, plan, ObjectId(target), lower, agent, first)?;
-            Ok(StackAgent::Connector(connector))
+            Ok(StackAgent {
+                role: StackRole::Connector(connector),
+            })
         }
         None => {
             let usual = agent_of(alloc, plan, devices, targets, agent)?;
-            Ok(StackAgent::Usual(usual))
+            Ok(StackAgent {
+                role: StackRole::Usual(usual),
+            })
         }
     }
 }
@@ -131,13 +151,17 @@ fn stack_agent_of(
 {
     if agent == 0 {
         let manager = StackManager::make(alloc, plan, devices, targets)?;
-        return Ok(StackAgent::StackManager(manager));
+        return Ok(StackAgent {
+            role: StackRole::StackManager(manager),
+        });
     }
     match target_of_agent(plan, devices, targets, agent) {
         Some(target) => connector_or_usual(alloc, plan, devices, targets, target, agent),
         None => {
             let usual = agent_of(alloc, plan, devices, targets, agent)?;
-            Ok(StackAgent::Usual(usual))
+            Ok(StackAgent {
+                role: StackRole::Usual(usual),
+            })
         }
     }
 }

@@ -55,5 +55,5 @@ stack_agent_value (Usual a) what = agent_value a what
 stack_agent_value _ what = 0
 
 -- the agents of the word `stack`
-abbrev pub stack_agents : Meaning StackAgent
-stack_agents = record { begin = stack_agent_at; fold = stack_agent_after; due = stack_agent_due; next = stack_agent_next; value = stack_agent_value }
+abbrev pub stack_meaning : Meaning StackAgent
+stack_meaning = record { begin = stack_agent_at; fold = stack_agent_after; due = stack_agent_due; next = stack_agent_next; value = stack_agent_value }

@@ -1,8 +1,8 @@
 -- The agent of a device or of a target.
-use Rattle.std.proofs.Common.{◌≡◌, ◌-◌, ◌<◌, ◌≤◌, length, slice_get, subst, sym, arith}
+use Rattle.std.proofs.Common.{◌≡◌, ◌-◌, ◌<◌, ◌≤◌, length, slice_get, subst, arith}
 use Rattle.std.specs.Result.{IfOk}
 use Rattle.wdf_model.specs.Plans.{devices_of, first_device_agent, targets_of}
-use Rattle.wdf_dev.specs.Agents.{device_or_target}
+use Rattle.wdf_model.specs.agents.AnyAgent.{device_or_target}
 use Rattle.wdf_dev.proofs.Owning.{owned}
 use Rattle.wdf_dev.proofs.any.agent_of.Goals as goal
 

@@ -1,6 +1,5 @@
 -- The agents that are no device's and no target's are the manager and the apps.
-use Rattle.std.proofs.Common.{◌≡◌, ◌+◌, length, arith}
-use Rattle.wdf_model.specs.Plans.{first_device_agent}
+use Rattle.std.proofs.Common.{length, arith}
 use Rattle.wdf_plan_index.proofs.Owning.{apps_are}
 use Rattle.wdf_dev.proofs.any.agents_before_devices.Goals as goal
 

@@ -1,7 +1,7 @@
 -- One agent more.
 use Rattle.std.proofs.Common.{refl, ◌≡◌, ◌+◌, arith}
 use Rattle.std.proofs.lemmas.List.FromFn.{map-range_with_len_more}
-use Rattle.wdf_stack.specs.Agents.{stack_agent_at}
+use Rattle.wdf_model.specs.agents.StackAgent.{stack_agent_at}
 use Rattle.wdf_stack.proofs.agents.stack_agents.Goals as goal
 
 pub loop-agent-preserved : goal.loop-agent-preserved
