@@ -2,15 +2,13 @@
 wrong body that isn't tried in the gate can be applied. Then a short search for runs that break what `lint` says, and the pages of
 `kmdfview` in a browser, where there is one."""
 
-import shutil
 import unittest
 
 from rows import launched, row, script
+import check_view
 
 CHECKS = (
-    "rules.py --check",
-    "trust.py --check",
-    "architecture.py --check",
+    "book --check",
     "editors.py --check",
     "runs_to_tests.py --check",
     "scene_to_plan.py --check",
@@ -27,8 +25,8 @@ def check(words):
 
 
 def look_at_pages():
-    if not shutil.which("chromium"):
-        raise unittest.SkipTest("no `chromium` on the PATH")
+    if check_view.lacking():
+        raise unittest.SkipTest(f"no {check_view.lacking()} here")
     return script("tools/check_view.py", launched("kmdfsim"), launched("kmdfview"))
 
 

@@ -1,7 +1,7 @@
 #!/usr/bin/env python3
 """check_view.py KMDFSIM [KMDFVIEW] [--pictures FOLDER]: looks at the pages of all examples in a browser.
 
-It needs Debian's `chromium` (apt-get install chromium), and fails where there is none; the gate doesn't run it. For each
+It needs Debian's `chromium` and `python3-websocket`, and fails where one isn't there. For each
 example: the page has as many boxes as the trace has starts, and as many first pieces of spans as requests come to be;
 pointing at a box shows its trace line; a click dims what isn't about that object, and a second one nothing; the arrow keys
 go from event to event, a drag moves the picture and leaves the labels in view, a search finds the last event, a zoom makes it
@@ -13,12 +13,11 @@ the window; the script beside the run shows the line of the event that is chosen
 documents are those that the programs make. With --pictures it takes screenshots in light, in dark and at 400 pixels' width."""
 import base64
 import glob
+import importlib.util
 import json
 import os
 import re
 import shutil
-import socket
-import struct
 import subprocess
 import sys
 import tempfile
@@ -28,57 +27,19 @@ import urllib.request
 here = os.path.dirname(os.path.abspath(__file__))
 
 
-class Socket:
-    """A WebSocket, as far as the browser's protocol needs one."""
-
-    def __init__(self, address):
-        host, port, path = re.match(r"ws://([^:/]+):(\d+)(/.*)", address).groups()
-        self.link = socket.create_connection((host, int(port)), timeout=120)
-        key = base64.b64encode(os.urandom(16)).decode()
-        self.link.sendall(
-            f"GET {path} HTTP/1.1\r\nHost: {host}:{port}\r\nUpgrade: websocket\r\nConnection: Upgrade\r\n"
-            f"Sec-WebSocket-Key: {key}\r\nSec-WebSocket-Version: 13\r\n\r\n".encode()
-        )
-        head = b""
-        while not head.endswith(b"\r\n\r\n"):
-            head += self.link.recv(1)
-
-    def send(self, text):
-        body = text.encode()
-        mask = os.urandom(4)
-        size = len(body)
-        head = b"\x81"
-        if size < 126:
-            head += struct.pack("!B", 128 | size)
-        elif size < 65536:
-            head += struct.pack("!BH", 128 | 126, size)
-        else:
-            head += struct.pack("!BQ", 128 | 127, size)
-        self.link.sendall(head + mask + bytes(b ^ mask[k % 4] for k, b in enumerate(body)))
-
-    def take(self, size):
-        data = b""
-        while len(data) < size:
-            data += self.link.recv(size - len(data))
-        return data
-
-    def receive(self):
-        text = b""
-        while True:
-            first, second = self.take(2)
-            size = second & 127
-            if size == 126:
-                (size,) = struct.unpack("!H", self.take(2))
-            elif size == 127:
-                (size,) = struct.unpack("!Q", self.take(8))
-            text += self.take(size)
-            if first & 128:
-                return text.decode()
+def lacking():
+    """The package of Debian that looking at pages needs and that isn't there, if there is one."""
+    if not shutil.which("chromium"):
+        return "chromium"
+    return None if importlib.util.find_spec("websocket") else "python3-websocket"
 
 
 class Tab:
     def __init__(self, address):
-        self.socket = Socket(address)
+        import websocket  # (who reads the JSON alone needs no browser, and not this)
+
+        # (To a page's Origin the browser would say no.)
+        self.socket = websocket.create_connection(address, timeout=120, suppress_origin=True)
         self.count = 0
         self.messages = []
 
@@ -86,7 +47,7 @@ class Tab:
         self.count += 1
         self.socket.send(json.dumps({"id": self.count, "method": method, "params": what}))
         while True:
-            got = json.loads(self.socket.receive())
+            got = json.loads(self.socket.recv())
             if got.get("id") == self.count:
                 if "error" in got:
                     sys.exit(f"{method}: {got['error']}")
@@ -113,11 +74,10 @@ class Tab:
 
 
 def browser(folder):
-    path = shutil.which("chromium")
-    if path is None:
-        sys.exit("there is no chromium here: apt-get install chromium")
+    if lacking():
+        sys.exit(f"there is no {lacking()} here: apt-get install {lacking()}")
     started = subprocess.Popen(
-        [path, "--headless", "--no-sandbox", "--disable-gpu", "--remote-debugging-port=0", f"--user-data-dir={folder}", "about:blank"],
+        ["chromium", "--headless", "--no-sandbox", "--disable-gpu", "--remote-debugging-port=0", f"--user-data-dir={folder}", "about:blank"],
         stdout=subprocess.DEVNULL,
         stderr=subprocess.DEVNULL,
     )
@@ -482,4 +442,5 @@ def main():
     sys.exit(1 if bad else 0)
 
 
-main()
+if __name__ == "__main__":
+    main()

@@ -1,5 +1,5 @@
 #!/usr/bin/env python3
-"""Says which names in README.md and docs/*.md name nothing: paths, crates, functions of crates, files, places of pages.
+"""Says which names in README.md and the pages below docs/ name nothing: paths, crates, functions of crates, files, places of pages.
 
 Looked at are words in backquotes and links. A path is what has a slash and begins with a folder of the repository; one with a
 part in capitals, as crates/NAME/out, is a form. A word that begins as crates do is a crate, a function of one or a script. `f`
@@ -12,10 +12,12 @@ import sys
 from pathlib import Path
 
 ROOT = Path(__file__).resolve().parent.parent
+# How many bytes all documents together may have.
+MOST = 250_000
 
 CODE = re.compile(r"`([^`\n]+)`")
-CRATE = re.compile(r"(?:wdf|law|check|test)_[a-z_0-9]+")
-OF_CRATE = re.compile(r"((?:`[A-Za-z_0-9.]+`(?:,| and)? )+)(?:in|of) `((?:wdf|law|check|test)_[a-z_0-9]+)`")
+NAME = re.compile(r"[a-z]+_[a-z_0-9]+")
+OF_CRATE = re.compile(r"((?:`[A-Za-z_0-9.]+`(?:,| and)? )+)(?:in|of) `([a-z]+_[a-z_0-9]+)`")
 LINK = re.compile(r"\]\(([^)\s]+)\)")
 DEFINED = re.compile(
     r"(?:\bfn|\bstruct|\benum|\btrait|\bconst|\brecord|\bdata|\bmod) ([A-Za-z_]\w*)|^ *(?:(?:abbrev |unfoldable )?pub )?([A-Za-z_][\w']*) ?:|^    ([A-Z]\w*)\b"
@@ -45,6 +47,7 @@ class Names:
         self.root = root
         self.folders = {path.name for path in root.iterdir() if path.is_dir()}
         self.crates = {path.name: path for path in (root / "crates").iterdir() if path.is_dir()}
+        self.fronts = {name.split("_")[0] for name in self.crates if "_" in name}
         sources = [path for crate in self.crates.values() for path in crate.rglob("*") if path.suffix in (".rt", ".antt")]
         self.files = {path.name for path in sources} | {f"{path.parent.name}/{path.name}" for path in sources}
         self.scripts = {path.stem for folder in ("tools", "bench") if (root / folder).is_dir() for path in (root / folder).rglob("*.py")}
@@ -62,7 +65,7 @@ class Names:
             if any(re.search(r"[*<]|\.\.", part) or re.fullmatch(r"[A-Z]{3,}", part) for part in parts):
                 return False
             return not (self.root / "/".join(parts)).exists()
-        if CRATE.fullmatch(word):
+        if NAME.fullmatch(word) and word.split("_")[0] in self.fronts:
             return word not in self.crates and word not in self.scripts and not any(word in self.of(crate) for crate in self.crates)
         if re.fullmatch(r"(?:\w+/)?\w+\.(?:rt|antt)", word):
             return word not in self.files
@@ -95,7 +98,7 @@ def wrong_in(page, names):
         crate = found.group(2)
         for word in re.findall(r"`([^`]+)`", found.group(1)):
             last = re.split(r"::|\.", word)[-1]
-            if crate in names.crates and last not in names.of(crate) and word not in names.files and not CRATE.fullmatch(word):
+            if crate in names.crates and last not in names.of(crate) and word not in names.files and word not in names.crates:
                 yield text.count("\n", 0, found.start()) + 1, f"{word} of {crate}"
 
 
@@ -106,14 +109,27 @@ def not_in_the_index(root):
     return sorted(name for name in there ^ told if name in told or not name.startswith("test_"))
 
 
+def documents(root):
+    """All that a person reads beside the code."""
+    places = ("*.md", "docs/**/*.md", "tools/*.md", "wip/*.md", "editors/*.md")
+    return sorted(path for place in places for path in root.glob(place))
+
+
+def too_long(root):
+    """That the documents together are longer than they may be, or None."""
+    size = sum(path.stat().st_size for path in documents(root))
+    return f"the documents together have {size} bytes, more than {MOST}" if size > MOST else None
+
+
 def main():
     names = Names(ROOT)
     wrong = [
         f"{page.relative_to(ROOT)}: {what} (line {number})"
-        for page in [ROOT / "README.md", *sorted((ROOT / "docs").glob("*.md"))]
+        for page in [ROOT / "README.md", *sorted((ROOT / "docs").rglob("*.md"))]
         for number, what in wrong_in(page, names)
     ]
     wrong += [f"tools/README.md: {script}" for script in not_in_the_index(ROOT)]
+    wrong += filter(None, [too_long(ROOT)])
     sys.exit("\n".join(wrong) if wrong else 0)
 
 

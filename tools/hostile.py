@@ -9,7 +9,7 @@ and, once, lines repeated up to each limit and one past it, and a text of the gr
 of `else`, of names that differ in their last digits, of one comment, of arbitrary bytes, of a name that is declared
 again and again and used, and texts that ask for the same long search again and again.
 
-Each text must be answered by `check` and by `order` with a status of the table in docs/SCENARIO.md, in one line where it is
+Each text must be answered by `check` and by `order` with a status of the table in docs/guide/TUTORIAL.md, in one line where it is
 refused, in less than two seconds of the processor and 400 MB, with no signal and nothing on the standard error.
 A row is printed for each text that isn't, with its name; `--keep FOLDER` keeps these texts. The status is 0 where
 all were, and else 1.

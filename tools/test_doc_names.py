@@ -58,6 +58,12 @@ class Page(unittest.TestCase):
             with self.subTest(words=words):
                 self.assertEqual(self.wrong_in(GOOD + words + "\n"), [(GOOD.count("\n") + 1, what)])
 
+    def test_length(self):
+        self.assertIsNone(doc_names.too_long(self.root))
+        (self.root / "docs/guide").mkdir()
+        (self.root / "docs/guide/PAGE.md").write_text("-" * doc_names.MOST)
+        self.assertIsNotNone(doc_names.too_long(self.root))
+
     def test_scripts_and_their_index(self):
         self.assertEqual(doc_names.not_in_the_index(self.root), ["check_none.py"])
 
