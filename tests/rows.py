@@ -1,6 +1,7 @@
 """What the tests of this folder share: a test with a name of its own, and the programs that are tried."""
 
 import os
+import re
 import subprocess
 import sys
 import unittest
@@ -8,9 +9,10 @@ import unittest
 sys.dont_write_bytecode = True
 ROOT = os.path.dirname(os.path.dirname(os.path.abspath(__file__)))
 sys.path.insert(0, os.path.join(ROOT, "tools"))
-from built import launched
+from built import NAMES, launched
 
-# The statuses with which the program says how a run ended.
+# The line of how a run ended, and the status that goes with its word.
+ENDING = re.compile(r"^(finished|fault|stuck|limit) \d+$", re.MULTILINE)
 STATUSES = {"finished": 0, "fault": 3, "stuck": 4, "limit": 5}
 
 
@@ -50,11 +52,24 @@ def files_in(folder, suffix):
     return sorted(os.path.relpath(path, ROOT) for path in found)
 
 
-def call(words, text, program="kmdfsim"):
-    """The status that a program ends with for some words and a text, and what it writes."""
-    given = text if isinstance(text, bytes) else text.encode()
-    done = subprocess.run([launched(program), *words.split()], input=given, capture_output=True, timeout=60, check=False)
-    return done.returncode, (done.stdout + done.stderr).decode(errors="replace")
+def answer(words, given):
+    """The status that a program ends with for some words and a text, and what it writes to its two outputs. Words that don't begin with
+    the name of another program are for kmdfsim."""
+    name, _, rest = words.partition(" ")
+    name, rest = (name, rest) if name in NAMES else ("kmdfsim", words)
+    done = subprocess.run([launched(name), *rest.split()], input=given, capture_output=True, timeout=60, check=False)
+    return done.returncode, done.stdout, done.stderr
+
+
+def call(words, text):
+    """The same of a text, with all that is written as one text."""
+    status, out, error = answer(words, text if isinstance(text, bytes) else text.encode())
+    return status, (out + error).decode(errors="replace")
+
+
+def status_of(trace):
+    """The status of a run that is written so."""
+    return STATUSES[ENDING.search(trace).group(1)]
 
 
 def check(text):

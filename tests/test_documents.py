@@ -17,7 +17,7 @@ import subprocess
 import tempfile
 import unittest
 
-from rows import ROOT, STATUSES, call, check, files_in, read, row
+from rows import ENDING, ROOT, STATUSES, call, check, files_in, read, row, status_of
 
 DOCUMENTS = ["README.md", *files_in("docs", ".md")]
 HEAD = "cpus 1\nlimit 100\nobjects 64\n"
@@ -51,8 +51,6 @@ AROUND = {
     "device": (HEAD + "device D\n", "end\n"),
     "statements": (HEAD + DECLARED + "on EvtDeviceD0Entry\n", "end\nend\n"),
 }
-# The line of how a run ended.
-ENDING = re.compile(r"^(finished|fault|stuck|limit) \d+$", re.MULTILINE)
 FENCED = re.compile(r"^```(kmdf|trace|console)(?: ([^\n]+))?\n(.*?)^```$", re.MULTILINE | re.DOTALL)
 SLIPS = re.compile(r"^\| written \|.*?\n\n", re.MULTILINE | re.DOTALL)
 # The sections with tables of names that say how a text, a plan, a trace or a driver is refused.
@@ -62,8 +60,7 @@ NAMING = ("Keeping a trace, and checking it again", "When a text is refused", "W
 def check_trace(place, text, scenario):
     """What is wrong with a run that a document shows, if anything is."""
     if not place:
-        due = STATUSES[ENDING.search(text).group(1)], text
-        return None if call("order", scenario) == due else "another run"
+        return None if call("order", scenario) == (status_of(text), text) else "another run"
     words, _, path = place.partition(" of ")
     return None if ("\n" + call(words, read(path))[1]).endswith("\n" + text) else f"`{words}` writes something else at the end"
 

@@ -2,7 +2,7 @@
 
 A scenario must run to its end, with the status that its first comment names (`the status 4`), or with 0. A comment
 `Seed N: ENDING` must be so, a fault with its line as `kmdfhunt` names it. What `order` and `seed N` write, for each N below SEEDS,
-must be accepted by `replay`; what `run` and `watch` write of those of examples/, too.
+must be accepted by `replay`.
 
 Of each worked run the program must write the trace that is beside it, which was made by hand or by another program. Of a text
 with two registers IDLE_TIMEOUT there is none: `check` must refuse it.
@@ -11,7 +11,7 @@ with two registers IDLE_TIMEOUT there is none: `check` must refuse it.
 import os
 import re
 
-from rows import call, check, files_in, read, replay, row
+from rows import call, check, files_in, read, replay, row, status_of
 from test_documents import ending_of
 
 SEEDS = int(os.environ.get("KMDFSIM_SEEDS", "3"))
@@ -19,6 +19,11 @@ FOLDERS = ("examples", "scenarios/drivers", "scenarios/hunt", "scenarios/not-fou
 WORKED = (("order", "tools/runs"), ("order", "scenarios/stuck"), ("order", "scenarios/spinning"), ("idle", "tools/idle"), ("stack", "tools/stack"))
 STATUS = re.compile(r"the status (\d+)")
 SEED = re.compile(r"^# Seed (\d+): (.*)$", re.MULTILINE)
+
+
+def worked_runs():
+    """The words and the path of each worked run."""
+    return [(words, path) for words, folder in WORKED for path in files_in(folder, ".scn")]
 
 
 def check_file(path):
@@ -42,20 +47,12 @@ def check_worked(words, path):
     text = read(path)
     if text.count("register IDLE_TIMEOUT") > 1:
         return None if call("check", text)[0] == 11 else "the text isn't refused"
-    return None if call(words, text)[1] == read(path[:-4] + ".out") else "another run"
-
-
-def check_threads(word, path):
-    """What `replay` says of the trace of a run in threads that it should accept, if it doesn't."""
-    text = read(path)
-    return replay(text, call(word, text)[1])
+    trace = read(path[:-4] + ".out")
+    return None if call(words, text) == (status_of(trace), trace) else "another run"
 
 
 def load_tests(_loader, tests, _pattern):
     scenarios = [path for folder in FOLDERS for path in files_in(folder, ".kmdf")]
     tests.addTests(row(path, lambda path=path: check_file(path)) for path in scenarios)
-    worked = [(words, path) for words, folder in WORKED for path in files_in(folder, ".scn")]
-    tests.addTests(row(f"{words} of {path}", lambda at=(words, path): check_worked(*at)) for words, path in worked)
-    threads = [(word, path) for path in files_in("examples", ".kmdf") for word in ("run", "watch")]
-    tests.addTests(row(f"{word} of {path}", lambda at=(word, path): check_threads(*at)) for word, path in threads)
+    tests.addTests(row(f"{words} of {path}", lambda at=(words, path): check_worked(*at)) for words, path in worked_runs())
     return tests

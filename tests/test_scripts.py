@@ -2,10 +2,10 @@
 wrong body that isn't tried in the gate can be applied. Then a short search for runs that break what `lint` says, and the pages of
 `kmdfview` in a browser, where there is one."""
 
-import shutil
 import unittest
 
 from rows import launched, row, script
+import check_view
 
 CHECKS = (
     "book --check",
@@ -25,8 +25,8 @@ def check(words):
 
 
 def look_at_pages():
-    if not shutil.which("chromium"):
-        raise unittest.SkipTest("no `chromium` on the PATH")
+    if check_view.lacking():
+        raise unittest.SkipTest(f"no {check_view.lacking()} here")
     return script("tools/check_view.py", launched("kmdfsim"), launched("kmdfview"))
 
 

@@ -7,13 +7,16 @@ import subprocess
 import sys
 
 ROOT = os.path.dirname(os.path.dirname(os.path.abspath(__file__)))
-PROGRAM = os.path.join(ROOT, "crates", "kmdfsim", "out", "kmdfsim")
 NAMES = ("kmdfsim", "kmdfhunt", "kmdfview")
+# What a script tries where no program is named: the launcher at the top.
+PROGRAM = os.path.join(ROOT, NAMES[0])
 
 
 def program_at(path):
-    """The path of a program, or an end of the script that says how to build it."""
+    """The path of a program, or an end of the script that says how to build it. Of a launcher at the top it is the program that this runs."""
     path = os.path.abspath(path)
+    if os.path.dirname(path) == ROOT and os.path.basename(path) in NAMES:
+        return launched(os.path.basename(path))
     if not os.access(path, os.X_OK):
         sys.exit(f"no program at {path}. Build it first: `./{os.path.basename(path)}` at the top does; README.md says how long that takes")
     return path
@@ -21,8 +24,8 @@ def program_at(path):
 
 @functools.lru_cache(maxsize=None)
 def launched(name):
-    """The path of the program that `./NAME` runs, which is built first where it isn't there; with KMDFSIM_PROGRAMS in the
-    environment that of the same name in this folder."""
+    """The path of the program that `./NAME` runs, which is built first where it isn't there: a quick one where none is proved, and with
+    KMDFSIM_PROVED=1 in the environment the proved one alone. With KMDFSIM_PROGRAMS there it is that of the same name in this folder."""
     folder = os.environ.get("KMDFSIM_PROGRAMS")
     if folder:
         return program_at(os.path.join(folder, name))

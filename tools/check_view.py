@@ -1,23 +1,23 @@
 #!/usr/bin/env python3
 """check_view.py KMDFSIM [KMDFVIEW] [--pictures FOLDER]: looks at the pages of all examples in a browser.
 
-It needs Debian's `chromium` (apt-get install chromium), and fails where there is none; the gate doesn't run it. For each
+It needs Debian's `chromium` and `python3-websocket`, and fails where one isn't there. For each
 example: the page has as many boxes as the trace has starts, and as many first pieces of spans as requests come to be;
 pointing at a box shows its trace line; a click dims what isn't about that object, and a second one nothing; the arrow keys
 go from event to event, a drag moves the picture and leaves the labels in view, a search finds the last event, a zoom makes it
 wider; without the script there are as many shapes; the page has no address; the console has no message. A trace with a line
 taken out gets the line and the status of `replay`. The JSON of `perfetto`, where the program has that word, has a slice for each
 start, its slices nest, and each span ends. The pages of a run of 20,000 events and of one of 200,000 open with blocks, and a zoom
-draws what is in them. The pictures of the documents are those that the programs make. With --pictures it takes screenshots in
-light, in dark and at 400 pixels' width."""
+draws what is in them. Pages that `./kmdfview html WAY FILE` makes open at the fault, or at the wait list, or with the whole run in
+the window; the script beside the run shows the line of the event that is chosen, and the story its events. The pictures of the
+documents are those that the programs make. With --pictures it takes screenshots in light, in dark and at 400 pixels' width."""
 import base64
 import glob
+import importlib.util
 import json
 import os
 import re
 import shutil
-import socket
-import struct
 import subprocess
 import sys
 import tempfile
@@ -27,57 +27,19 @@ import urllib.request
 here = os.path.dirname(os.path.abspath(__file__))
 
 
-class Socket:
-    """A WebSocket, as far as the browser's protocol needs one."""
-
-    def __init__(self, address):
-        host, port, path = re.match(r"ws://([^:/]+):(\d+)(/.*)", address).groups()
-        self.link = socket.create_connection((host, int(port)), timeout=120)
-        key = base64.b64encode(os.urandom(16)).decode()
-        self.link.sendall(
-            f"GET {path} HTTP/1.1\r\nHost: {host}:{port}\r\nUpgrade: websocket\r\nConnection: Upgrade\r\n"
-            f"Sec-WebSocket-Key: {key}\r\nSec-WebSocket-Version: 13\r\n\r\n".encode()
-        )
-        head = b""
-        while not head.endswith(b"\r\n\r\n"):
-            head += self.link.recv(1)
-
-    def send(self, text):
-        body = text.encode()
-        mask = os.urandom(4)
-        size = len(body)
-        head = b"\x81"
-        if size < 126:
-            head += struct.pack("!B", 128 | size)
-        elif size < 65536:
-            head += struct.pack("!BH", 128 | 126, size)
-        else:
-            head += struct.pack("!BQ", 128 | 127, size)
-        self.link.sendall(head + mask + bytes(b ^ mask[k % 4] for k, b in enumerate(body)))
-
-    def take(self, size):
-        data = b""
-        while len(data) < size:
-            data += self.link.recv(size - len(data))
-        return data
-
-    def receive(self):
-        text = b""
-        while True:
-            first, second = self.take(2)
-            size = second & 127
-            if size == 126:
-                (size,) = struct.unpack("!H", self.take(2))
-            elif size == 127:
-                (size,) = struct.unpack("!Q", self.take(8))
-            text += self.take(size)
-            if first & 128:
-                return text.decode()
+def lacking():
+    """The package of Debian that looking at pages needs and that isn't there, if there is one."""
+    if not shutil.which("chromium"):
+        return "chromium"
+    return None if importlib.util.find_spec("websocket") else "python3-websocket"
 
 
 class Tab:
     def __init__(self, address):
-        self.socket = Socket(address)
+        import websocket  # (who reads the JSON alone needs no browser, and not this)
+
+        # (To a page's Origin the browser would say no.)
+        self.socket = websocket.create_connection(address, timeout=120, suppress_origin=True)
         self.count = 0
         self.messages = []
 
@@ -85,7 +47,7 @@ class Tab:
         self.count += 1
         self.socket.send(json.dumps({"id": self.count, "method": method, "params": what}))
         while True:
-            got = json.loads(self.socket.receive())
+            got = json.loads(self.socket.recv())
             if got.get("id") == self.count:
                 if "error" in got:
                     sys.exit(f"{method}: {got['error']}")
@@ -112,11 +74,10 @@ class Tab:
 
 
 def browser(folder):
-    path = shutil.which("chromium")
-    if path is None:
-        sys.exit("there is no chromium here: apt-get install chromium")
+    if lacking():
+        sys.exit(f"there is no {lacking()} here: apt-get install {lacking()}")
     started = subprocess.Popen(
-        [path, "--headless", "--no-sandbox", "--disable-gpu", "--remote-debugging-port=0", f"--user-data-dir={folder}", "about:blank"],
+        ["chromium", "--headless", "--no-sandbox", "--disable-gpu", "--remote-debugging-port=0", f"--user-data-dir={folder}", "about:blank"],
         stdout=subprocess.DEVNULL,
         stderr=subprocess.DEVNULL,
     )
@@ -355,6 +316,68 @@ def look_at_example(tab, simulator, viewer, path, folder, pictures):
     return bad
 
 
+# What the launcher is asked for, and what the page has to open at: the line of the event that is chosen, the line of the script,
+# whether it is stuck, and a line of the story, if it has one.
+WITH_SCRIPT = (
+    ("seed 10 examples/echo-bug.kmdf", "44 cpu0 fault CompleteBeforeCancelCallback 17", 17, False, "The run of 44 events ended in the fault CompleteBeforeCancelCallback at line 17."),
+    ("order examples/deadlock.kmdf", "", None, True, "These lines wait in a circle: 1, 2, 1."),
+    ("order examples/first-read.kmdf", "", None, False, None),
+)
+CHOSEN = "(row => row && Number(row.dataset.n))(document.querySelector('#script .chosen'))"
+# Whether an element is in view, wholly, in its part of the page and in the window.
+IN_VIEW = """((e, box) => { if (!e) return false; const a = e.getBoundingClientRect(), b = box.getBoundingClientRect();
+  return a.left >= b.left - 1 && a.right <= b.right + 1 && a.top >= b.top - 1 && a.bottom <= b.bottom + 1 && a.bottom <= innerHeight; })"""
+
+
+def page_with_script(words, folder):
+    """The page that the launcher makes of a file, with its script."""
+    page = os.path.join(folder, "script.html")
+    with open(page, "wb") as it:
+        subprocess.run(["./kmdfview", "html", *words.split()], cwd=os.path.join(here, ".."), stdout=it, check=True)
+    return page
+
+
+def clicked(tab, element):
+    """Clicks an element, and answers the line of the event that is chosen then, and the line of the script."""
+    tab.value(f"{element}.click()")
+    return tab.value("document.getElementById('line').textContent"), tab.value(CHOSEN)
+
+
+def look_at_scripts(tab, folder):
+    """What is wrong with the pages that have the script and the story beside the run."""
+    bad = []
+    for words, line, chosen, is_stuck, told in WITH_SCRIPT:
+
+        def want(what, got, wanted, words=words):
+            if got != wanted:
+                bad.append(f"html {words}: {what}: {got!r}, and not {wanted!r}")
+
+        tab.messages.clear()
+        opened(tab, page_with_script(words, folder))
+        want("the event that it opens at", tab.value("document.getElementById('line').textContent"), line)
+        want("the line that it opens at", tab.value(CHOSEN), chosen)
+        want("a story", tab.value("[...document.querySelectorAll('#story div')].map(row => row.textContent)") if told is None else told in tab.value("document.getElementById('story').innerText"), [] if told is None else True)
+        if chosen:
+            want("the fault is in view", tab.value(IN_VIEW + "(document.querySelector('#shapes .fault > rect'), document.getElementById('run'))"), True)
+            want("its line is in view", tab.value(IN_VIEW + "(document.querySelector('#script .chosen'), document.getElementById('script'))"), True)
+        else:
+            want("the whole run is in the window", tab.value("(r => r.scrollWidth <= r.clientWidth)(document.getElementById('run'))"), True)
+        want("a wait list that is in view", tab.value(IN_VIEW + "(document.querySelector('#stuck'), document.body)"), is_stuck)
+        with open(os.path.join(here, "..", words.split()[-1]), encoding="ascii") as it:
+            want("the script", tab.value("[...document.querySelectorAll('#script div')].map(row => row.textContent).join('\\n')"), it.read().rstrip())
+        if words.startswith("seed"):
+            cancel = "[...document.querySelectorAll('#story .event')].find(row => row.textContent.includes('Typist cancel'))"
+            want("a click on an event of the story", clicked(tab, cancel), ("41 Typist cancel 2 -> req.8", 78))
+        elif not is_stuck:
+            want("a click on a line", clicked(tab, "document.querySelectorAll('#script div')[11]"), ("3 cpu0 call WdfRequestComplete req.4 SUCCESS -> SUCCESS", 12))
+            tab.ask("Input.dispatchKeyEvent", type="keyDown", key="ArrowRight")
+            want("the line of the next event", tab.value(CHOSEN), 13)
+        tab.ask("Emulation.setDeviceMetricsOverride", width=400, height=800, deviceScaleFactor=1, mobile=False)
+        want("the page is no wider than a narrow window", tab.value("document.documentElement.scrollWidth <= 400"), True)
+        want("messages", tab.messages, [])
+    return bad
+
+
 def large_runs():
     """A run of 20,000 events, and one of 200,000, more than which no run has."""
     sys.path.insert(0, os.path.join(here, "..", "bench"))
@@ -406,6 +429,7 @@ def main():
             examples = sorted(glob.glob(os.path.join(here, "..", "examples", "*.kmdf")))
             for path in examples:
                 bad += look_at_example(tab, simulator, viewer, path, folder, pictures)
+            bad += look_at_scripts(tab, folder)
             bad += look_at_large_runs(tab, simulator, viewer, folder)
             checked = subprocess.run([sys.executable, os.path.join(here, "view", "pictures.py"), viewer, "--check"], capture_output=True, text=True, check=False)
             bad += checked.stdout.splitlines() + checked.stderr.splitlines()[-1:]
@@ -418,4 +442,5 @@ def main():
     sys.exit(1 if bad else 0)
 
 
-main()
+if __name__ == "__main__":
+    main()

@@ -62,6 +62,7 @@ class Programs(unittest.TestCase):
         self.put("kmdfhunt", "#!/bin/sh\nexit 1\n")
         with mock.patch.object(built, "ROOT", self.room), mock.patch.dict(os.environ, {"KMDFSIM_PROGRAMS": ""}):
             self.assertEqual(built.launched("kmdfsim"), quick)
+            self.assertEqual(built.program_at(os.path.join(self.room, "kmdfsim")), quick)
             self.assert_ends("./kmdfhunt isn't built", built.launched, "kmdfhunt")
 
 

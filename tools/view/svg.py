@@ -7,7 +7,7 @@ import re
 import sys
 
 # The lines of the style that are of the page around the picture.
-OF_PAGE = re.compile(r"^(\*|body|h1|h2|header|#run|#plot|#names \{|#names, #plot|button|#tools|#line|\.legend|\.k|pre|@media print|\.dim|\.here|\.s:hover|\.s \{|#stuck)")
+OF_PAGE = re.compile(r"^(\*|body|h1|h2|header|#run|#plot|#both|#side|#story|#script|@media \(max-width|#names \{|#names, #plot|button|#tools|#line|\.legend|\.k|pre|@media print|\.dim|\.here|\.s:hover|\.s \{|#stuck)")
 
 
 def cut(text, begin, end):

@@ -81,14 +81,54 @@ const zoom = (factor, clientX) => {
   const box = run.getBoundingClientRect(), offset = names.getBoundingClientRect().width;
   const mid = clientX === undefined ? run.clientWidth / 2 : clientX - box.left;
   const slot = (run.scrollLeft + mid - offset) / width;
-  width = Math.min(Math.max(width * factor, 200), slots * 90, 16000000);
+  width = Math.min(Math.max(width * factor, 200), slots * 300, 16000000);
   plot.setAttribute('width', width + 20);
   run.scrollLeft = slot * width - mid + offset;
   draw();
 };
 const say = n => { line.textContent = textOf(n); };
+const source = byId('source') && JSON.parse(byId('source').textContent);
+const side = document.createElement('aside'), script = document.createElement('pre');
+const add = (parent, name, text) => { const e = document.createElement(name); e.textContent = text; parent.append(e); return e; };
+const showLine = n => {
+  if (!source) return;
+  each(script.querySelectorAll('.chosen'), row => row.classList.remove('chosen'));
+  const row = script.children[source.lines[n - 1] - 1];
+  if (!row) return;
+  row.classList.add('chosen');
+  const top = row.offsetTop - script.scrollTop;
+  if (top < 20 || top > script.clientHeight - 40) script.scrollTop = row.offsetTop - script.clientHeight / 2;
+};
+const goToLine = number => {
+  for (let k = 0; k < slots; k++) {
+    const n = (at + k) % slots + 1;
+    if (source.lines[n - 1] === number) { go(n); return; }
+  }
+  line.textContent = 'no event of this run is of line ' + number;
+};
+const showStory = () => {
+  add(side, 'h2', 'Why');
+  const story = add(side, 'section', '');
+  story.id = 'story';
+  each(source.story.trimEnd().split('\n'), text => {
+    const row = add(story, 'div', text), found = /^ *(\d+) \S+ /.exec(text);
+    if (found && textOf(Number(found[1])) === text.trim()) { row.className = 'event'; row.addEventListener('click', () => go(Number(found[1]))); }
+  });
+};
+const showSource = () => {
+  if (!source) return;
+  const both = document.createElement('div');
+  both.id = 'both'; side.id = 'side'; script.id = 'script';
+  run.before(both);
+  both.append(run, side);
+  if (source.story) showStory();
+  add(side, 'h2', source.name);
+  side.append(script);
+  each(source.script.trimEnd().split('\n'), text => { add(script, 'div', text).dataset.n = script.children.length; });
+  script.addEventListener('click', event => { const row = event.target.closest('[data-n]'); if (row) goToLine(Number(row.dataset.n)); });
+};
 const go = n => {
-  at = Math.min(Math.max(n, 1), slots); say(at); mark();
+  at = Math.min(Math.max(n, 1), slots); say(at); mark(); showLine(at);
   const x = (at - 1) * width / slots, room = run.clientWidth - names.getBoundingClientRect().width;
   if (x < run.scrollLeft || x > run.scrollLeft + room - 20) run.scrollLeft = x - room / 2;
 };
@@ -130,7 +170,9 @@ const tools = byId('tools');
 const button = (text, title, f) => { const b = document.createElement('button'); b.textContent = text; b.title = title; b.addEventListener('click', f); tools.append(b); };
 button('\u2212', 'zoom out (key -)', () => zoom(1 / 1.5));
 button('+', 'zoom in (key +)', () => zoom(1.5));
-button('all', 'the whole run in the window', () => { width = Math.max(200, run.clientWidth - names.getBoundingClientRect().width - 24); draw(); });
+const room = () => Math.max(200, run.clientWidth - names.getBoundingClientRect().width - 24);
+const fit = () => { width = Math.min(room(), slots * 90); draw(); };
+button('all', 'the whole run in the window', fit);
 button('\u2039', 'the event before (left arrow)', () => go(at - 1));
 button('\u203a', 'the next event (right arrow)', () => go(at + 1));
 const search = document.createElement('input');
@@ -146,6 +188,9 @@ search.addEventListener('keydown', event => {
 });
 tools.append(search);
 tools.hidden = false;
-draw();
+showSource();
+const hasFault = document.querySelector('header .last') !== null;
+if (hasFault && first > room()) draw(); else fit();
+if (hasFault) go(slots);
 })();
 "#;

@@ -12,6 +12,19 @@ header p { margin: 2px 0 8px; color: var(--soft); }
 header p.last { font: 13px/1.5 ui-monospace, monospace; color: var(--red); }
 svg text { font: 11px system-ui, sans-serif; fill: var(--ink); }
 #run { display: flex; overflow: auto; max-height: 78vh; border: 1px solid var(--rule); background: var(--ground); }
+#both { display: flex; gap: 8px; align-items: flex-start; }
+#both #run { flex: 1 1 0; min-width: 0; }
+#side { display: flex; flex-direction: column; flex: 0 0 36%; min-width: 0; max-height: 78vh; border: 1px solid var(--rule); background: var(--panel); }
+#side h2 { flex: none; margin: 0; padding: 3px 8px; border-bottom: 1px solid var(--rule); }
+#story { flex: none; max-height: 38vh; overflow: auto; padding: 3px 0; border-bottom: 1px solid var(--rule); }
+#story div { padding: 1px 8px; font: 13px/1.45 system-ui, sans-serif; white-space: pre-wrap; overflow-wrap: anywhere; }
+#story .event { font: 12px/1.45 ui-monospace, monospace; cursor: pointer; }
+#story .event:hover, #script div:hover { background: var(--rule); }
+#script { position: relative; flex: 1 1 auto; min-height: 12em; max-height: none; margin: 0; overflow: auto; }
+#script div { min-width: max-content; min-height: 1.45em; padding-right: 8px; cursor: pointer; }
+#script div::before { content: attr(data-n); display: inline-block; width: 3.5em; margin-right: 1em; text-align: right; color: var(--soft); }
+#script .chosen { background: color-mix(in srgb, var(--red) 28%, transparent); }
+@media (max-width: 900px) { #both { flex-direction: column; align-items: stretch; } #both #run, #side { flex: none; } }
 #names { position: sticky; left: 0; flex: none; z-index: 1; background: var(--panel); }
 #plot { flex: none; touch-action: pan-x pan-y; }
 #names, #plot { user-select: none; -webkit-user-select: none; }
@@ -76,5 +89,5 @@ button, input { font: inherit; color: var(--ink); background: var(--panel); bord
 .k.returning { background: var(--returning); border-style: dotted; } .k.done { background: var(--done); }
 .k.cancel { border: 2px solid var(--red); } .k.fault { background: color-mix(in srgb, var(--red) 25%, transparent); border-color: var(--red); }
 pre { font: 12px/1.45 ui-monospace, monospace; overflow: auto; max-height: 60vh; }
-@media print { #run, #stuck { overflow: visible; max-height: none; } #tools, #line, details { display: none; } #names { position: static; } body { padding: 0; } * { print-color-adjust: exact; -webkit-print-color-adjust: exact; } }
+@media print { #run, #stuck, #side, #story, #script { overflow: visible; max-height: none; } #tools, #line, details { display: none; } #names { position: static; } body { padding: 0; } * { print-color-adjust: exact; -webkit-print-color-adjust: exact; } }
 "#;
