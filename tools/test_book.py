@@ -319,10 +319,16 @@ class OfClaims(Tree):
 
 
     def test_what_crates_of_definitions_stand_on(self):
-        page = {"TRUST.md": "| `spec_a`, `low_b` | what |\n"}
-        for listed, said in [("spec_a: low_b", []), ("spec_a: low_b low_c", ["spec_a uses low_c, which TRUST.md doesn't list"])]:
-            root = self.tree({"crates.txt": f"# All.\nlow_c:\nlow_b: low_c\n{listed}\n", **page})
-            self.assertEqual(claims.leaks(Repository(root), root / "TRUST.md"), said)
+        uses = "spec_a uses low_c: it may use only wdf_base, wdf_model, wdf_laws and crates spec_"
+        acts = "spec_a has Sum::add, which isn't a definition or a plain type"
+        sums = "//! Sums.\npub struct Sum(u64);\n\nimpl Sum {{\n    pub fn {}(&{}self) -> u64\n        ensures {{ result ≡ self.old }}\n    {{\n        self.0\n    }}\n}}\n"
+        for listed, text, said in [
+            ("spec_a: spec_b itoa", sums.format("total", ""), []),
+            ("spec_a: spec_b low_c", sums.format("total", ""), [uses]),
+            ("spec_a:", sums.format("add", "mut "), [acts]),
+        ]:
+            root = self.tree({"crates.txt": f"# All.\nlow_c:\nspec_b:\n{listed}\n", "crates/spec_a/src/lib.rt": text})
+            self.assertEqual(claims.leaks(Repository(root)), said)
 
 
 class OfThePages(Tree):

@@ -44,7 +44,7 @@ def look(book: Book, pages: Dict[str, str]) -> List[str]:
     """What is wrong with the book and what leads to it, a line each."""
     trust = book.root / "docs" / "proof" / "TRUST.md"
     unlisted = claims.differences(claims.promised(book.claims, book.names), trust)
-    return [*book.cards.wrong, *book.cards.unnamed(), *broken(pages), *unknown_subjects(book), *unlisted, *claims.leaks(book.repository, trust)]
+    return [*book.cards.wrong, *book.cards.unnamed(), *broken(pages), *unknown_subjects(book), *unlisted, *claims.leaks(book.repository)]
 
 
 def write(pages: Dict[str, str], folder: Path) -> None:
