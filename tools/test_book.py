@@ -22,11 +22,11 @@ LIST = """# What this list is.
 wdf_model:
 
 # Code, lowest first.
-wdf_part: wdf_model # a part
+low_part: wdf_model # a part
 
 # Laws: what holds.
 law_queue: wdf_model
-law_worked: wdf_model wdf_part
+law_worked: wdf_model low_part
 """
 QUEUES = """-- Queues. (own)
 -- a queue
@@ -135,10 +135,10 @@ FILES = {
     "crates/wdf_model/specs/Others.antt": OTHERS,
     "crates/wdf_model/specs/Deeds.antt": DEEDS,
     "crates/wdf_model/src/lib.rt": DEED,
-    "crates/wdf_part/src/lib.rt": PART,
-    "crates/wdf_part/src/other.rt": OTHER,
-    "crates/wdf_part/must-fail/front_is_zero.edit": "file: src/lib.rt\nold:     queue.front\nnew:     0\n",
-    "crates/wdf_part/wrong/other_front.edit": "file: src/other.rt\nold:     2,\nnew:     3,\nold: most = MANY[0]\nnew: most = MANY[1]\n",
+    "crates/low_part/src/lib.rt": PART,
+    "crates/low_part/src/other.rt": OTHER,
+    "crates/low_part/must-fail/front_is_zero.edit": "file: src/lib.rt\nold:     queue.front\nnew:     0\n",
+    "crates/low_part/wrong/other_front.edit": "file: src/other.rt\nold:     2,\nnew:     3,\nold: most = MANY[0]\nnew: most = MANY[1]\n",
     "crates/law_queue/src/lib.rt": LAW,
     "crates/law_worked/src/lib.rt": "//! Worked.\n/// One worked run.\npub fn one_run()\n{}\n",
 }
@@ -178,7 +178,7 @@ class OfRules(Tree):
         ("a case, and a deed | do_deed (Put and one more), Put | - | -",
          ["abbrev pub do_deed : Deed → Queue → Queue\n  ..\n-- a front is put\ndo_deed (Put n) q =\n  record { front = n }\n-- and once more\ndo_deed (PutAgain n) q = q",
           "Put { front: u32 },"], "put_one", "", "", ""),
-        ("code | drops | - | other_front | wdf_part/src/other.rt::takes, wdf_part::waits", ["abbrev pub drops : Queue → Queue\ndrops q = q"], "Queue::takes waits", "MANY Queue::asks", "", "other_front"),
+        ("code | drops | - | other_front | low_part/src/other.rt::takes, low_part::waits", ["abbrev pub drops : Queue → Queue\ndrops q = q"], "Queue::takes waits", "MANY Queue::asks", "", "other_front"),
     ]
     REFUSED = [
         ("none | puts", "the repository has no puts"),
@@ -187,8 +187,8 @@ class OfRules(Tree):
         ("no case | do_deed (Sell)", "do_deed has no case Sell, and there is no such crate or file"),
         ("no law | takes | puts_once", "there is no law puts_once"),
         ("no wrong body | takes | - | front_is_one", "there is no wrong body front_is_one"),
-        ("no function | takes | - | - | wdf_part::puts", "there is no function wdf_part::puts"),
-        ("which of two | takes | - | - | wdf_part::takes", "there is no function wdf_part::takes"),
+        ("no function | takes | - | - | low_part::puts", "there is no function low_part::puts"),
+        ("which of two | takes | - | - | low_part::takes", "there is no function low_part::takes"),
         ("a part too many | takes | - | - | takes | -", "can't be read: a part too many | takes | - | - | takes | -"),
         ("no code | do_deed (Take), Take | - | -", "no code"),
         ("no word on wrong bodies | drops | -", "no wrong body, and no `-` that says so"),
@@ -215,15 +215,15 @@ class OfRules(Tree):
                 self.assertIn(f"rules.txt, line 2: {said}", self.cards(rule).wrong)
 
     def test_wrong_bodies_without_a_rule(self):
-        for rule, left in [("all | takes | - | front_is_zero, other_front", []), ("one | takes | - | other_front", ["wdf_part/must-fail/front_is_zero.edit"])]:
+        for rule, left in [("all | takes | - | front_is_zero, other_front", []), ("one | takes | - | other_front", ["low_part/must-fail/front_is_zero.edit"])]:
             self.assertEqual(self.cards(rule).unnamed(), [f"rules.txt names no rule for the wrong body {edit}" for edit in left])
 
 
 SERVE = """//! The program.
 ghost use Rattle.std.specs.Prelude.{ℕ};
-ghost use Rattle.wdf_serve.specs.Promises.{Promises, Headline};
+ghost use Rattle.low_serve.specs.Promises.{Promises, Headline};
 
-use wdf_io::{Flow, Reads};
+use low_io::{Flow, Reads};
 
 /// Serves.
 pub fn serve<R: Reads>(flow: &Flow<R>) -> u8
@@ -238,9 +238,9 @@ pub fn serve<R: Reads>(flow: &Flow<R>) -> u8
 """
 PROMISES = """-- What is promised. And more of it.
 use Rattle.std.specs.Prelude.{ℕ, List}
-use Rattle.wdf_base.specs.Words as words
-use Rattle.wdf_base.specs.Prelude.{Plan}
-use Rattle.wdf_base.specs.declared.plan.Plan.TheVariants as plan
+use Rattle.low_base.specs.Words as words
+use Rattle.low_base.specs.Prelude.{Plan}
+use Rattle.low_base.specs.declared.plan.Plan.TheVariants as plan
 
 -- all of it
 pub record Promises (n : ℕ) : Type 0 where
@@ -262,31 +262,31 @@ module _ {n : ℕ} where
   unneeded n = words.is_long n
 """
 PROGRAM = {
-    "crates.txt": "# All.\nwdf_base:\nwdf_io: wdf_base\nwdf_serve: wdf_base wdf_io\n",
-    "crates/wdf_serve/src/lib.rt": SERVE,
-    "crates/wdf_serve/specs/Promises.antt": PROMISES,
-    "crates/wdf_base/specs/Words.antt": "-- Words.\nuse Rattle.kit_words.specs.Words.{is_letter}\nabbrev pub is_word : ℕ → Type 0\nis_word n = is_letter n\nabbrev pub is_long : ℕ → Type 0\nis_long n = n\n",
-    "crates/wdf_base/specs/Lists.antt": "-- Lists.\nabbrev pub Listed : Type 0 → Type 0\nListed T = T\n",
-    "crates/wdf_base/specs/Prelude.antt": "-- Handed on.\nunfoldable pub use Rattle.wdf_base.specs.declared.plan.Plan.{Plan}\n",
-    "crates/wdf_base/src/lib.rt": "//! Types.\n",
-    "crates/wdf_base/src/plan.rt": "use crate::items::{Items, MANY};\n\n/// A plan.\npub struct Plan {\n    pub names: Items<u8, MANY>,\n}\n\npub enum Other {\n    None,\n}\n",
-    "crates/wdf_base/src/items.rt": "use std::marker::Model;\n\npub const MANY: u64 = 4;\n\npub struct Items<T> {\n    items: Vec<T>,\n}\n\nimpl<T> Model for Items<T> {\n"
-    "    ghost use Rattle.wdf_base.specs.Lists.{Listed};\n\n    ghost Value = { Listed T };\n}\n",
-    "crates/wdf_io/src/lib.rt": "//! Streams.\npub trait Reads {}\n\n/// A flow.\npub struct Flow<R> {\n    inner: R,\n}\n",
-    "docs/proof/CLAIMS.md": "| | claim | function | what it doesn't say |\n|---|---|---|---|\n| 1 | It is served | `serve` of `wdf_serve` | how |\n| 2 | It is done | `serve` of `wdf_serve`: `headline` | when |\n",
-    "docs/proof/TRUST.md": "| crate | what |\n|---|---|\n| `wdf_serve` | a |\n| `wdf_base`, `wdf_io` | b |\n",
+    "crates.txt": "# All.\nlow_base:\nlow_io: low_base\nlow_serve: low_base low_io\n",
+    "crates/low_serve/src/lib.rt": SERVE,
+    "crates/low_serve/specs/Promises.antt": PROMISES,
+    "crates/low_base/specs/Words.antt": "-- Words.\nuse Rattle.kit_words.specs.Words.{is_letter}\nabbrev pub is_word : ℕ → Type 0\nis_word n = is_letter n\nabbrev pub is_long : ℕ → Type 0\nis_long n = n\n",
+    "crates/low_base/specs/Lists.antt": "-- Lists.\nabbrev pub Listed : Type 0 → Type 0\nListed T = T\n",
+    "crates/low_base/specs/Prelude.antt": "-- Handed on.\nunfoldable pub use Rattle.low_base.specs.declared.plan.Plan.{Plan}\n",
+    "crates/low_base/src/lib.rt": "//! Types.\n",
+    "crates/low_base/src/plan.rt": "use crate::items::{Items, MANY};\n\n/// A plan.\npub struct Plan {\n    pub names: Items<u8, MANY>,\n}\n\npub enum Other {\n    None,\n}\n",
+    "crates/low_base/src/items.rt": "use std::marker::Model;\n\npub const MANY: u64 = 4;\n\npub struct Items<T> {\n    items: Vec<T>,\n}\n\nimpl<T> Model for Items<T> {\n"
+    "    ghost use Rattle.low_base.specs.Lists.{Listed};\n\n    ghost Value = { Listed T };\n}\n",
+    "crates/low_io/src/lib.rt": "//! Streams.\npub trait Reads {}\n\n/// A flow.\npub struct Flow<R> {\n    inner: R,\n}\n",
+    "docs/proof/CLAIMS.md": "| | claim | function | what it doesn't say |\n|---|---|---|---|\n| 1 | It is served | `serve` of `low_serve` | how |\n| 2 | It is done | `serve` of `low_serve`: `headline` | when |\n",
+    "docs/proof/TRUST.md": "| crate | what |\n|---|---|\n| `low_serve` | a |\n| `low_base`, `low_io` | b |\n",
     "docs/guide/MACHINE.md": "Rules: Words; of what is\nserved: Plans, where there are.\n",
-    "tools/rules.txt": "Words\na word | is_word | - | - | wdf_serve::serve\nPlans, where there are\n",
+    "tools/rules.txt": "Words\na word | is_word | - | - | low_serve::serve\nPlans, where there are\n",
 }
 
 
 class OfClaims(Tree):
     ALL = {"Promises", "Headline", "IsDone", "is_word", "Plan", "Items", "MANY", "Listed", "Flow"}
     LOST = [
-        ("crates/wdf_base/specs/Words.antt", "is_word n =", "IsWord n =", "crates/wdf_base/specs/Words.antt: a line that is of no definition: IsWord n = is_letter n"),
-        ("crates/wdf_serve/specs/Promises.antt", "words.is_word n", "words.is_words n", "crates/wdf_base/specs/Words.antt has no is_words"),
-        ("crates/wdf_serve/specs/Promises.antt", "specs.Words as", "specs.Texts as", "there is no Rattle.wdf_base.specs.Texts.is_word"),
-        ("crates/wdf_serve/src/lib.rt", "pub fn serve<", "pub fn serves<", "CLAIMS.md: claim 1: there is no serve of wdf_serve"),
+        ("crates/low_base/specs/Words.antt", "is_word n =", "IsWord n =", "crates/low_base/specs/Words.antt: a line that is of no definition: IsWord n = is_letter n"),
+        ("crates/low_serve/specs/Promises.antt", "words.is_word n", "words.is_words n", "crates/low_base/specs/Words.antt has no is_words"),
+        ("crates/low_serve/specs/Promises.antt", "specs.Words as", "specs.Texts as", "there is no Rattle.low_base.specs.Texts.is_word"),
+        ("crates/low_serve/src/lib.rt", "pub fn serve<", "pub fn serves<", "CLAIMS.md: claim 1: there is no serve of low_serve"),
     ]
 
     def claims(self, files):
@@ -307,10 +307,10 @@ class OfClaims(Tree):
             self.assertEqual(str(caught.exception), said)
 
     def test_the_list_of_what_to_read(self):
-        unlisted = "TRUST.md doesn't list wdf_io, of which the promises need a definition"
+        unlisted = "TRUST.md doesn't list low_io, of which the promises need a definition"
         pages = [
-            ("`wdf_base`, `wdf_io`", "`wdf_base`, `law_io`", [unlisted, "TRUST.md lists law_io, of which the promises need no definition"]),
-            (", `wdf_io`", "", [unlisted]),
+            ("`low_base`, `low_io`", "`low_base`, `law_flow`", [unlisted, "TRUST.md lists law_flow, of which the promises need no definition"]),
+            (", `low_io`", "", [unlisted]),
             ("", "", []),
         ]
         for old, new, said in pages:
@@ -318,12 +318,25 @@ class OfClaims(Tree):
             self.assertEqual(claims.differences(self.claims(PROGRAM)[0].reached, root / "docs/proof/TRUST.md"), said)
 
 
+    def test_what_crates_of_definitions_stand_on(self):
+        uses = "spec_a uses low_c: it may use only wdf_base, wdf_model, wdf_laws and crates spec_"
+        acts = "spec_a has Sum::add, which isn't a definition or a plain type"
+        sums = "//! Sums.\npub struct Sum(u64);\n\nimpl Sum {{\n    pub fn {}(&{}self) -> u64\n        ensures {{ result ≡ self.old }}\n    {{\n        self.0\n    }}\n}}\n"
+        for listed, text, said in [
+            ("spec_a: spec_b itoa", sums.format("total", ""), []),
+            ("spec_a: spec_b low_c", sums.format("total", ""), [uses]),
+            ("spec_a:", sums.format("add", "mut "), [acts]),
+        ]:
+            root = self.tree({"crates.txt": f"# All.\nlow_c:\nspec_b:\n{listed}\n", "crates/spec_a/src/lib.rt": text})
+            self.assertEqual(claims.leaks(Repository(root)), said)
+
+
 class OfThePages(Tree):
     def test_a_book(self):
         book = Book(self.tree(PROGRAM))
         pages = book.pages()
         self.assertEqual(main.broken(pages), [])
-        self.assertIn('<a href="crate-wdf_base.html#specs.Words.is_word">words.is_word</a>', pages["crate-wdf_serve.html"])
+        self.assertIn('<a href="crate-low_base.html#specs.Words.is_word">words.is_word</a>', pages["crate-low_serve.html"])
         self.assertIn("is_letter n", pages["rules-words.html"])
         self.assertEqual(main.unknown_subjects(book), ["docs/guide/MACHINE.md: rules.txt has no subject of what is served:"])
 
@@ -345,7 +358,7 @@ class OfThePages(Tree):
 
 class OfTexts(unittest.TestCase):
     def test_groups(self):
-        self.assertEqual(groups_of(LIST), [Group("The machine's definitions", "", ["wdf_model"]), Group("Code", "lowest first", ["wdf_part"]), Group("Laws", "what holds", ["law_queue", "law_worked"])])
+        self.assertEqual(groups_of(LIST), [Group("The machine's definitions", "", ["wdf_model"]), Group("Code", "lowest first", ["low_part"]), Group("Laws", "what holds", ["law_queue", "law_worked"])])
         with self.assertRaises(Lost):
             groups_of("wdf_text:\n")
 

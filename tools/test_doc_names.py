@@ -7,8 +7,8 @@ from pathlib import Path
 import doc_names
 
 FILES = {
-    "crates/wdf_text/src/lib.rt": "//! Text.\npub fn small() -> u32\n    ensures little { ⊤ }\n{\n    1\n}\n",
-    "crates/wdf_text/specs/Texts.antt": "-- texts\nabbrev pub text_of : ℕ\ntext_of = 0\n",
+    "crates/low_text/src/lib.rt": "//! Text.\npub fn small() -> u32\n    ensures little { ⊤ }\n{\n    1\n}\n",
+    "crates/low_text/specs/Texts.antt": "-- texts\nabbrev pub text_of : ℕ\ntext_of = 0\n",
     "tools/check_all.py": "",
     "tools/test_check_all.py": "",
     "tools/README.md": "`check_all.py` and `check_none.py`\n",
@@ -16,23 +16,23 @@ FILES = {
 }
 GOOD = """# A page
 
-`wdf_text`, `check_all` and `wdf_part::x` are there, `small` of `wdf_text` and `small`, `text_of` in `wdf_text` too, and so are
-`crates/wdf_text/specs/Texts.antt`, `Texts.antt`, `src/lib.rt`, `crates/NAME/out`, `tools/*.py` and [other](OTHER.md#what-it-is).
-A line can be named, as [this one](../crates/wdf_text/src/lib.rt#L2).
-`docs` and `either/or` are no path, [here](#a-page) is this page, `little` of `wdf_text` is a clause.
+`low_text`, `check_all` and `low_part::x` are there, `small` of `low_text` and `small`, `text_of` in `low_text` too, and so are
+`crates/low_text/specs/Texts.antt`, `Texts.antt`, `src/lib.rt`, `crates/NAME/out`, `tools/*.py` and [other](OTHER.md#what-it-is).
+A line can be named, as [this one](../crates/low_text/src/lib.rt#L2).
+`docs` and `either/or` are no path, [here](#a-page) is this page, `little` of `low_text` is a clause.
 
 ```kmdf
-`wdf_nothing`
+`low_nothing`
 ```
 """
 BAD = [
-    ("the crate `wdf_words`", "wdf_words"),
-    ("the file `crates/wdf_text/src/words.rt`", "crates/wdf_text/src/words.rt"),
+    ("the crate `low_words`", "low_words"),
+    ("the file `crates/low_text/src/words.rt`", "crates/low_text/src/words.rt"),
     ("the file `Words.antt`", "Words.antt"),
-    ("the function `great` of `wdf_text`", "great of wdf_text"),
+    ("the function `great` of `low_text`", "great of low_text"),
     ("[a link](NONE.md)", "NONE.md"),
     ("[a link](OTHER.md#what-it-was)", "OTHER.md#what-it-was"),
-    ("[a link](../crates/wdf_text/src/lib.rt#small)", "../crates/wdf_text/src/lib.rt#small"),
+    ("[a link](../crates/low_text/src/lib.rt#small)", "../crates/low_text/src/lib.rt#small"),
 ]
 
 

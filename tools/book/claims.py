@@ -5,10 +5,13 @@ from pathlib import Path
 from typing import Dict, Iterable, List, NamedTuple, Optional
 
 from book.names import At, Names
-from book.repository import Lost
+from book.repository import Lost, Repository
 from book.rules import Found
-from book.sources import Item, text_of
+from book.sources import Item, functions_in, text_of
 
+# The crates of definitions and plain types, and what none of the functions of the first sort takes.
+SPECS, TRUSTED = "spec_", ("wdf_base", "wdf_model", "wdf_laws")
+ACTS = re.compile(r"&mut |\balloc: ")
 ROW = re.compile(r"^\| (\d+) \| (.*?) \| (.*?) \| (.*?) \|$", re.M)
 NAMED = re.compile(r"((?:`\w+`(?:,| and)? )+)of `(\w+)`(?:: `(\w+)`)?")
 LISTED = re.compile(r"^\| (`\w+`(?:, `\w+`)*) \|", re.M)
@@ -63,6 +66,16 @@ def differences(reached: Iterable[At], page: Path) -> List[str]:
     return [f"{page.name} doesn't list {crate}, of which the promises need a definition" for crate in needed if crate not in told] + [
         f"{page.name} lists {crate}, of which the promises need no definition" for crate in told if crate not in needed
     ]
+
+
+def leaks(repository: Repository) -> List[str]:
+    """What crates of definitions name beside each other and the kit, and their functions that change something or take memory."""
+    trusted = {crate for crate in repository.names if crate.startswith(SPECS) or crate in TRUSTED}
+    wrong = [f"{crate} uses {one}: it may use only {', '.join(TRUSTED)} and crates {SPECS}" for crate in trusted for one in repository.uses[crate] if one not in trusted]
+    for crate in (crate for crate in repository.names if crate.startswith(SPECS)):
+        acting = (item for path in repository.code(crate) for item in functions_in(path) if ACTS.search(item.text))
+        wrong += [f"{crate} has {item.name}, which isn't a definition or a plain type" for item in acting]
+    return sorted(wrong)
 
 
 def chain(claims: List[Claim], name: str) -> List[List[At]]:

@@ -42,8 +42,9 @@ def unknown_subjects(book: Book) -> List[str]:
 
 def look(book: Book, pages: Dict[str, str]) -> List[str]:
     """What is wrong with the book and what leads to it, a line each."""
-    unlisted = claims.differences(claims.promised(book.claims, book.names), book.root / "docs" / "proof" / "TRUST.md")
-    return [*book.cards.wrong, *book.cards.unnamed(), *broken(pages), *unknown_subjects(book), *unlisted]
+    trust = book.root / "docs" / "proof" / "TRUST.md"
+    unlisted = claims.differences(claims.promised(book.claims, book.names), trust)
+    return [*book.cards.wrong, *book.cards.unnamed(), *broken(pages), *unknown_subjects(book), *unlisted, *claims.leaks(book.repository)]
 
 
 def write(pages: Dict[str, str], folder: Path) -> None:

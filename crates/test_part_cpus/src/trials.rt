@@ -2,8 +2,7 @@
 use crate::{dpcs, interrupts, locks, processors, timers, work_items};
 use std::alloc::Global;
 use std::test::Fail;
-use test_plans::PlanBuilder;
-use wdf_base::{Memory, Plan};
+use wdf_base::{Memory, Plan, PlanBuilder};
 
 /// The name of a case, and the place of what isn't as due in it.
 pub type Wrong = Option<(&'static str, usize)>;

@@ -1,3 +1,3 @@
 pub mod Parts
 pub mod Ahead
-pub mod Agents
+pub mod Roles

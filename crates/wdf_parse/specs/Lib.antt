@@ -4,4 +4,5 @@ pub mod Picking
 pub mod Printing
 pub mod Standing
 pub mod StandsFor
+pub mod SoFar
 pub mod Texts

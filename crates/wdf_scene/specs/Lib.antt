@@ -1,5 +1,4 @@
 pub mod Blocks
-pub mod Change
 pub mod Naming
 pub mod Scene
 pub mod Words

@@ -1,3 +1,3 @@
-pub mod Agents
+pub mod Roles
 pub mod Spans
 pub mod Line

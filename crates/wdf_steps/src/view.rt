@@ -96,6 +96,6 @@ impl View for TopFrame<'_> {
 
     fn hardware(&self, register: u32) -> bool {
         self.power
-            .has_hardware(self.plan.device_of_register(register))
+            .hardware(self.plan.device_of_register(register))
     }
 }
