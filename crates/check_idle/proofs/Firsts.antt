@@ -9,7 +9,7 @@ use Rattle.wdf_base.proofs.Tests.{not_false}
 use Rattle.wdf_model.specs.rules.Ready.{IsRunOf}
 use Rattle.wdf_model.proofs.Counts.{one_or_two}
 use Rattle.wdf_model.proofs.Runs.{take_next}
-use Rattle.wdf_model.specs.agents.IdleAgent.{idle_meaning}
+use Rattle.wdf_idle.specs.Agents.{idle_meaning}
 use Rattle.law_idle.specs.First.{breaks_at, breaks_law, first_break}
 use Rattle.law_idle.specs.Idling.{time_after, time_step}
 use Rattle.law_idle.specs.Law.{KeepsIdleLaw, keeps_idle_law}

@@ -2,7 +2,7 @@
 ghost use Rattle.std.specs.Prelude.{◌≡◌, ◌↔◌, ◌<◌, IfOk, IsNone, Some};
 ghost use Rattle.wdf_base.specs.Resolved.{IsResolved};
 ghost use Rattle.wdf_model.specs.rules.Ready.{IsRunOf};
-ghost use Rattle.wdf_model.specs.agents.IdleAgent.{idle_meaning};
+ghost use Rattle.wdf_idle.specs.Agents.{idle_meaning};
 ghost use Rattle.law_idle.specs.First.{first_break};
 ghost use Rattle.law_idle.specs.Idling.{time_step};
 ghost use Rattle.law_idle.specs.Law.{KeepsIdleLaw};

@@ -5,7 +5,7 @@ use Rattle.wdf_base.specs.declared.plan.Plan.{Plan}
 use Rattle.wdf_base.specs.declared.event.Event.{Event}
 use Rattle.wdf_laws.specs.First.{IsFirstBroken, Kept, broken_at, broken_by, broken_in}
 use Rattle.wdf_laws.specs.Frames.{frames_after}
-use Rattle.wdf_laws.specs.Laws.{completed_once, one_under_a_lock, quiet_after_cleanup, interrupts_while_enabled, works_with_power, acknowledged_before_power_loss, cancelled_once, presented_from_head, ended_once}
+use Rattle.wdf_laws.specs.Laws.{law_1, law_2, law_3, law_4, law_5, law_6, law_7, law_8, law_9}
 use Rattle.law_trace_all.specs.Kept.{KeepsAt, KeepsLaws}
 
 -- ---- one event
@@ -21,15 +21,15 @@ wrap false x n h k = absurd (let z : ⊥ = cc in z)
 
 kept_by : (plan : Plan) (run : List Event) (k : ℕ) (e : Event) → broken_by plan run (take k run) (frames_after (take k run)) e ≡ None → KeepsAt plan run k e
 kept_by plan run k e h =
-    let a = peel (completed_once (take k run) e) _ 1 h in
-    let b = peel (one_under_a_lock plan run (frames_after (take k run)) e) _ 2 a.1 in
-    let c = peel (quiet_after_cleanup plan run (take k run) e) _ 3 b.1 in
-    let d = peel (interrupts_while_enabled plan (take k run) (frames_after (take k run)) e) _ 4 c.1 in
-    let f = peel (works_with_power plan (take k run) e) _ 5 d.1 in
-    let g = peel (acknowledged_before_power_loss plan (take k run) e) _ 6 f.1 in
-    let i = peel (cancelled_once (take k run) e) _ 7 g.1 in
-    let j = peel (presented_from_head (take k run) e) _ 8 i.1 in
-    let l = peel (ended_once plan run (take k run) e) None 9 j.1 in
+    let a = peel (law_1 (take k run) e) _ 1 h in
+    let b = peel (law_2 plan run (frames_after (take k run)) e) _ 2 a.1 in
+    let c = peel (law_3 plan run (take k run) e) _ 3 b.1 in
+    let d = peel (law_4 plan (take k run) (frames_after (take k run)) e) _ 4 c.1 in
+    let f = peel (law_5 plan (take k run) e) _ 5 d.1 in
+    let g = peel (law_6 plan (take k run) e) _ 6 f.1 in
+    let i = peel (law_7 (take k run) e) _ 7 g.1 in
+    let j = peel (law_8 (take k run) e) _ 8 i.1 in
+    let l = peel (law_9 plan run (take k run) e) None 9 j.1 in
     record {
       completed = a.0;
       scoped = b.0;
@@ -44,15 +44,15 @@ kept_by plan run k e h =
 
 none_by : (plan : Plan) (run : List Event) (k : ℕ) (e : Event) → KeepsAt plan run k e → broken_by plan run (take k run) (frames_after (take k run)) e ≡ None
 none_by plan run k e h =
-    wrap (completed_once (take k run) e) _ 1 h.completed (
-    wrap (one_under_a_lock plan run (frames_after (take k run)) e) _ 2 h.scoped (
-    wrap (quiet_after_cleanup plan run (take k run) e) _ 3 h.cleaned (
-    wrap (interrupts_while_enabled plan (take k run) (frames_after (take k run)) e) _ 4 h.served (
-    wrap (works_with_power plan (take k run) e) _ 5 h.powered (
-    wrap (acknowledged_before_power_loss plan (take k run) e) _ 6 h.acknowledged (
-    wrap (cancelled_once (take k run) e) _ 7 h.cancelled (
-    wrap (presented_from_head (take k run) e) _ 8 h.in_turn (
-    wrap (ended_once plan run (take k run) e) None 9 h.ended refl))))))))
+    wrap (law_1 (take k run) e) _ 1 h.completed (
+    wrap (law_2 plan run (frames_after (take k run)) e) _ 2 h.scoped (
+    wrap (law_3 plan run (take k run) e) _ 3 h.cleaned (
+    wrap (law_4 plan (take k run) (frames_after (take k run)) e) _ 4 h.served (
+    wrap (law_5 plan (take k run) e) _ 5 h.powered (
+    wrap (law_6 plan (take k run) e) _ 6 h.acknowledged (
+    wrap (law_7 (take k run) e) _ 7 h.cancelled (
+    wrap (law_8 (take k run) e) _ 8 h.in_turn (
+    wrap (law_9 plan run (take k run) e) None 9 h.ended refl))))))))
 
 -- ---- the whole list
 

@@ -41,7 +41,7 @@ fn ends_after_requests(past: &Past, ended: Option<u32>) -> bool
 
 /// A request is completed once, after it arrived; a device is destroyed after its requests are completed.
 pub fn keeps_completions(past: &Past, event: &Event) -> bool
-    ensures { result ≡ laws.completed_once (before past.now) event.now }
+    ensures { result ≡ laws.law_1 (before past.now) event.now }
 {
     completes_once(past, completed(event)) && ends_after_requests(past, destroyed(event))
 }
@@ -78,7 +78,7 @@ fn is_free_scope(past: &Past, frames: &Frames, scope: Option<LockRef>) -> bool
 
 /// Callbacks under one scope lock come one after the other.
 pub fn keeps_scopes(past: &Past, frames: &Frames, event: &Event) -> bool
-    ensures { result ≡ laws.one_under_a_lock past.now.plan past.now.all frames.now event.now }
+    ensures { result ≡ laws.law_2 past.now.plan past.now.all frames.now event.now }
 {
     match event {
         Event::Start {
@@ -112,7 +112,7 @@ fn cleaned_above(past: &Past, most: usize, o: u32) -> bool
 
 /// After the cleanup of an object nothing begins on it or below it but its destroy callback.
 pub fn keeps_cleanups(past: &Past, event: &Event) -> bool
-    ensures { result ≡ laws.quiet_after_cleanup past.now.plan past.now.all (before past.now) event.now }
+    ensures { result ≡ laws.law_3 past.now.plan past.now.all (before past.now) event.now }
 {
     match event {
         Event::Start {
@@ -142,7 +142,7 @@ fn is_cancel_due(past: &Past, request: Option<u32>) -> bool
 
 /// A cancel callback comes once, for a request that is marked and whose cancel was posted.
 pub fn keeps_cancels(past: &Past, event: &Event) -> bool
-    ensures { result ≡ laws.cancelled_once (before past.now) event.now }
+    ensures { result ≡ laws.law_7 (before past.now) event.now }
 {
     is_cancel_due(past, begun_for(Callback::EvtRequestCancel, event))
 }
@@ -172,7 +172,7 @@ fn ends_well(past: &Past, ended: Option<u32>) -> bool
 
 /// An object is destroyed once, after its cleanup and its children, and without references.
 pub fn keeps_ends(past: &Past, event: &Event) -> bool
-    ensures { result ≡ laws.ended_once past.now.plan past.now.all (before past.now) event.now }
+    ensures { result ≡ laws.law_9 past.now.plan past.now.all (before past.now) event.now }
 {
     ends_well(past, destroyed(event))
 }

@@ -54,7 +54,7 @@ fn is_presented_in_turn(past: &Past, presented: Option<Taking>) -> bool
 
 /// A queue presents from its head.
 pub fn keeps_order(past: &Past, event: &Event) -> bool
-    ensures { result ≡ laws.presented_from_head (before past.now) event.now }
+    ensures { result ≡ laws.law_8 (before past.now) event.now }
 {
     is_presented_in_turn(past, presented(event))
 }

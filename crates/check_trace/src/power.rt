@@ -110,7 +110,7 @@ fn interrupt_rows(
 /// EvtInterruptEnable begins only on an entered device, and an interrupt's other callbacks only after it was enabled
 /// there. Those with its lock begin alone.
 pub fn keeps_interrupts(past: &Past, frames: &Frames, event: &Event) -> bool
-    ensures { result ≡ laws.interrupts_while_enabled past.now.plan (before past.now) frames.now event.now }
+    ensures { result ≡ laws.law_4 past.now.plan (before past.now) frames.now event.now }
 {
     match event {
         Event::Start {
@@ -199,7 +199,7 @@ fn begun_with_power(past: &Past, event: &Event) -> bool
 
 /// A power-managed queue works only while its device has power.
 pub fn keeps_queues(past: &Past, event: &Event) -> bool
-    ensures { result ≡ laws.works_with_power past.now.plan (before past.now) event.now }
+    ensures { result ≡ laws.law_5 past.now.plan (before past.now) event.now }
 {
     presented_with_power(past, presented(event)) && begun_with_power(past, event)
 }
@@ -238,7 +238,7 @@ fn all_acknowledged(past: &Past, device: Option<u32>) -> bool
 
 /// A device loses power only after each held request was acknowledged.
 pub fn keeps_requests(past: &Past, event: &Event) -> bool
-    ensures { result ≡ laws.acknowledged_before_power_loss past.now.plan (before past.now) event.now }
+    ensures { result ≡ laws.law_6 past.now.plan (before past.now) event.now }
 {
     all_acknowledged(past, passed(Stage::Settled, event))
         && all_acknowledged(past, begun_on(Callback::EvtDeviceD0Exit, event))

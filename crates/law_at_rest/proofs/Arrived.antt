@@ -48,8 +48,10 @@ use Rattle.wdf_model.specs.rules.Ready.{IsRunOf, ready, state_after}
 use Rattle.wdf_model.specs.rules.Steps.{after, deeds, may}
 use Rattle.wdf_model.proofs.Runs.{along_run}
 use Rattle.wdf_model.proofs.Tests.{both_left, both_right, itself as it_is}
-use Rattle.wdf_model.specs.agents.AnyAgent as agent
-use Rattle.wdf_model.specs.agents.AnyAgent.{AnyAgent, agent_meaning}
+use Rattle.wdf_dev.specs.Agents as dev
+use Rattle.wdf_dev.specs.Agents.{agent_meaning}
+use Rattle.wdf_dev.specs.declared.any.AnyAgent.{AnyAgent}
+use Rattle.wdf_dev.specs.declared.any.AnyAgent.TheVariants as agent
 use Rattle.law_machine_base.proofs.Follows.{follows, state_goes_on}
 use Rattle.law_machine_base.proofs.KeptByDeeds.{is_arrival}
 use Rattle.law_machine_deeds.specs.MayDo.{may_do, posts}
@@ -184,21 +186,21 @@ app_more p (event.Posted a q answer) = post_more_by a p (a == p.agent && nat_lt 
 app_more p (event.Tick time) = omega arith
 app_more p _ = omega arith
 
-agent_more : (a : AnyAgent) (e : Event) → posted_by a ≤ posted_by (agent.agent_after a e)
+agent_more : (a : AnyAgent) (e : Event) → posted_by a ≤ posted_by (dev.agent_after a e)
 agent_more (agent.PnpManager p) e = app_more p e
 agent_more (agent.App p) e = app_more p e
 agent_more (agent.Device d) e = omega arith
 agent_more (agent.LowerTarget t) e = omega arith
 
-none_fewer : (e : Event) (xs : List AnyAgent) → total posted_by xs ≤ total posted_by (map (λ a. agent.agent_after a e) xs)
+none_fewer : (e : Event) (xs : List AnyAgent) → total posted_by xs ≤ total posted_by (map (λ a. dev.agent_after a e) xs)
 none_fewer e [] = omega arith
 none_fewer e (a ∷ as') = let one = agent_more a e in let rest = none_fewer e as' in omega (arith, one, rest)
 
-one_more : (e : Event) (xs : List AnyAgent) (k : ℕ) (a : AnyAgent) → slice_get xs k ≡ Some a → posted_by a < posted_by (agent.agent_after a e) → total posted_by xs < total posted_by (map (λ a. agent.agent_after a e) xs)
+one_more : (e : Event) (xs : List AnyAgent) (k : ℕ) (a : AnyAgent) → slice_get xs k ≡ Some a → posted_by a < posted_by (dev.agent_after a e) → total posted_by xs < total posted_by (map (λ a. dev.agent_after a e) xs)
 one_more e [] k a at h = absurd (let z : ⊥ = cc in z)
 one_more e (b ∷ bs) zero a at h =
     let same : b ≡ a = same_Some b a at in
-    let first : posted_by b < posted_by (agent.agent_after b e) = subst (λ x. posted_by x < posted_by (agent.agent_after x e)) (sym same) h in
+    let first : posted_by b < posted_by (dev.agent_after b e) = subst (λ x. posted_by x < posted_by (dev.agent_after x e)) (sym same) h in
     let rest = none_fewer e bs in omega (arith, first, rest)
 one_more e (b ∷ bs) (suc k) a at h = let first = agent_more b e in let rest = one_more e bs k a at h in omega (arith, first, rest)
 
@@ -244,7 +246,7 @@ dones_none : (own : Status) (o : Option SentRequest) (x q : Post) → option_map
 dones_none own None x q due h is = let z : ⊥ = cc in z
 dones_none own (Some s) x q due h is = done_is_none s.request _ q (subst (λ y. same_post y q ≡ true) (sym (same_Some (done_post own s) x due)) h) is
 
-left_of : (a : AnyAgent) (x q : Post) → agent.agent_due a ≡ Some x → same_post x q ≡ true → is_request q ≡ true → HasLeft a
+left_of : (a : AnyAgent) (x q : Post) → dev.agent_due a ≡ Some x → same_post x q ≡ true → is_request q ≡ true → HasLeft a
 left_of (agent.PnpManager p) x q due h is = line_left p x due
 left_of (agent.App p) x q due h is = line_left p x due
 left_of (agent.Device d) x q due h is = acts_none (due_action d) x q due h is
@@ -258,7 +260,7 @@ app_posts plan k p q answer h low =
     by_both : k ≡ p.agent → nat_lt p.posted (length p.lines) ≡ true → (k == p.agent && nat_lt p.posted (length p.lines)) ≡ true
     by_both same left = rw (same, it_is p.agent, left) refl
 
-posts_one : (plan : Plan) (k : ℕ) (a : AnyAgent) (q : Post) (answer : Option Handle) → IsItself plan k a → HasLeft a → posted_by a < posted_by (agent.agent_after a (event.Posted k q answer))
+posts_one : (plan : Plan) (k : ℕ) (a : AnyAgent) (q : Post) (answer : Option Handle) → IsItself plan k a → HasLeft a → posted_by a < posted_by (dev.agent_after a (event.Posted k q answer))
 posts_one plan k (agent.PnpManager p) q answer h left = app_posts plan k p q answer h.0 left
 posts_one plan k (agent.App p) q answer h left = app_posts plan k p q answer h.0 left
 posts_one plan k (agent.Device d) q answer h left = absurd left
@@ -280,12 +282,12 @@ module _ (plan : Plan) (resolved : IsResolved plan) where
       subst (λ xs. total posted_by S.agents ≤ total posted_by xs) (sym (agents_after plan agent_meaning S e)) (told_none_fewer e S.agents) in
       omega (arith, same, more, few)
 
-  posts_by : (S : State AnyAgent) (k : ℕ) (q : Post) (o : Option AnyAgent) → slice_get S.agents k ≡ o → same_option same_post (option_and_then agent.agent_due o) (Some q) ≡ true → is_request q ≡ true
+  posts_by : (S : State AnyAgent) (k : ℕ) (q : Post) (o : Option AnyAgent) → slice_get S.agents k ≡ o → same_option same_post (option_and_then dev.agent_due o) (Some q) ≡ true → is_request q ≡ true
       → (a : AnyAgent) × (slice_get S.agents k ≡ Some a) × HasLeft a
   posts_by S k q None at h is = absurd (let z : ⊥ = cc in z)
-  posts_by S k q (Some a) at h is = (a, at, of_due (agent.agent_due a) refl h)
+  posts_by S k q (Some a) at h is = (a, at, of_due (dev.agent_due a) refl h)
     where
-      of_due : (d : Option Post) → agent.agent_due a ≡ d → same_option same_post d (Some q) ≡ true → HasLeft a
+      of_due : (d : Option Post) → dev.agent_due a ≡ d → same_option same_post d (Some q) ≡ true → HasLeft a
       of_due None due h = absurd (let z : ⊥ = cc in z)
       of_due (Some x) due h = left_of a x q due h is
 
@@ -295,7 +297,7 @@ module _ (plan : Plan) (resolved : IsResolved plan) where
       let two : (same_option same_post (due_of agent_meaning S k) (Some q) && post_fits plan S k q) ≡ true = both_left (same_option same_post (due_of agent_meaning S k) (Some q) && post_fits plan S k q) (same_option same_handle (post_answer plan S k q) answer) comes in
       let due : same_option same_post (due_of agent_meaning S k) (Some q) ≡ true = both_left (same_option same_post (due_of agent_meaning S k) (Some q)) (post_fits plan S k q) two in
       let it = posts_by S k q (slice_get S.agents k) refl due is in
-      let more : total posted_by S.agents < total posted_by (map (λ a. agent.agent_after a (event.Posted k q answer)) S.agents) =
+      let more : total posted_by S.agents < total posted_by (map (λ a. dev.agent_after a (event.Posted k q answer)) S.agents) =
       one_more (event.Posted k q answer) S.agents k it.0 it.1 (posts_one plan k it.0 q answer (selves k it.0 it.1) it.2) in
       let told_more : total posted_by S.agents < total posted_by (after plan agent_meaning S (event.Posted k q answer)).agents =
       subst (λ xs. total posted_by S.agents < total posted_by xs) (sym (agents_after plan agent_meaning S (event.Posted k q answer))) more in

@@ -31,8 +31,10 @@ use Rattle.wdf_model.specs.rules.Posts.{due_of, may_finish, post_fits}
 use Rattle.wdf_model.specs.rules.Ready.{IsRunOf, ending_of, is_open_post, state_after}
 use Rattle.wdf_model.proofs.Counts.{equal}
 use Rattle.wdf_model.proofs.Tests.{both, both_right}
-use Rattle.wdf_model.specs.agents.AnyAgent as agent
-use Rattle.wdf_model.specs.agents.AnyAgent.{AnyAgent, agent_meaning}
+use Rattle.wdf_dev.specs.Agents as dev
+use Rattle.wdf_dev.specs.Agents.{agent_meaning}
+use Rattle.wdf_dev.specs.declared.any.AnyAgent.{AnyAgent}
+use Rattle.wdf_dev.specs.declared.any.AnyAgent.TheVariants as agent
 use Rattle.law_machine_base.specs.OverRuns.{PlacesAgree}
 use Rattle.law_machine_base.proofs.LawsOverRuns.{places_agree}
 use Rattle.law_machine_lives.proofs.Lists.{Each, all_at}
@@ -123,8 +125,8 @@ module _ (plan : Plan) (run : List Event) (resolved : IsResolved plan) (is_run :
   rest : NothingComes plan agent_meaning S
   rest = nothing_comes plan agent_meaning run ends
 
-  due_here : (k : ℕ) (a : AnyAgent) (q : Post) → slice_get S.agents k ≡ Some a → agent.agent_due a ≡ Some q → post_fits plan S k q ≡ false
-  due_here k a q at due = rest.posts k q (ap (option_and_then agent.agent_due) at ∙ due)
+  due_here : (k : ℕ) (a : AnyAgent) (q : Post) → slice_get S.agents k ≡ Some a → dev.agent_due a ≡ Some q → post_fits plan S k q ≡ false
+  due_here k a q at due = rest.posts k q (ap (option_and_then dev.agent_due) at ∙ due)
 
   -- the next line of an app or of the manager is due
   next_due : (k : ℕ) (p : app.App) (l : PostLine) → slice_get p.lines p.posted ≡ Some l → app.app_next p ≡ None → app.app_due p ≡ Some l.post
@@ -290,7 +292,7 @@ module _ (plan : Plan) (run : List Event) (resolved : IsResolved plan) (is_run :
   none_due_at : (q : Post) (o : Option Post) → o ≡ None → o ≡ Some q → ⊥
   none_due_at q o none due = let z : ⊥ = cc in z
 
-  agent_due : (k : ℕ) (a : AnyAgent) (q : Post) → slice_get S.agents k ≡ Some a → IsItself plan k a → agent.agent_due a ≡ Some q → (k ≡ 0) × IsAskedOfBusy S q
+  agent_due : (k : ℕ) (a : AnyAgent) (q : Post) → slice_get S.agents k ≡ Some a → IsItself plan k a → dev.agent_due a ≡ Some q → (k ≡ 0) × IsAskedOfBusy S q
   agent_due k (agent.PnpManager p) q at h due = (h.1, manager_due k p q at h.0 h.1 due)
   agent_due k (agent.App p) q at h due = absurd (none_due_at q (app.app_due p) (app_quiet k p h.0 (app_over k p at h.0 h.1)) due)
   agent_due k (agent.Device d) q at h due = absurd (none_due_at q (device_due d) (ap (option_map action_post) (none_due k d at h (due_action d) refl)) due)
@@ -300,8 +302,8 @@ module _ (plan : Plan) (run : List Event) (resolved : IsResolved plan) (is_run :
   asks_due k q due = by (slice_get S.agents k) refl
     where
       by : (o : Option AnyAgent) → slice_get S.agents k ≡ o → (k ≡ 0) × IsAskedOfBusy S q
-      by None at = absurd (none_due_at q (due_of agent_meaning S k) (ap (option_and_then agent.agent_due) at) due)
-      by (Some a) at = agent_due k a q at (itself plan resolved run is_run k a at) (ap (option_and_then agent.agent_due) (sym at) ∙ due)
+      by None at = absurd (none_due_at q (due_of agent_meaning S k) (ap (option_and_then dev.agent_due) at) due)
+      by (Some a) at = agent_due k a q at (itself plan resolved run is_run k a at) (ap (option_and_then dev.agent_due) (sym at) ∙ due)
 
 -- ---- where a run has finished
 
@@ -332,7 +334,7 @@ module _ (plan : Plan) (run : List Event) (resolved : IsResolved plan) (is_run :
       let next : slice_get (posts_of plan 0) p.posted ≡ Some l = it.1 in
       let here : slice_get p.lines p.posted ≡ Some l = ap (λ ls. slice_get ls p.posted) (h.lines ∙ ap (posts_of plan) zeroth) ∙ next in
       let due : app.app_due p ≡ Some l.post = next_due plan run resolved is_run (inl ends) k p l here ((nothing_comes plan agent_meaning run (inl ends)).later k (agent.PnpManager p) at) in
-      let due_there : due_of agent_meaning T k ≡ Some l.post = ap (option_and_then agent.agent_due) at ∙ due in
+      let due_there : due_of agent_meaning T k ≡ Some l.post = ap (option_and_then dev.agent_due) at ∙ due in
       let none = none_due_here k (due_of agent_meaning T k) refl in
       absurd (let z : ⊥ = cc (sym none ∙ due_there) in z)
 

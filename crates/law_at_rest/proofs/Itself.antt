@@ -24,8 +24,10 @@ use Rattle.wdf_model.specs.rules.Ready.{IsRunOf, state_after}
 use Rattle.wdf_model.specs.agents.App as app
 use Rattle.wdf_model.specs.agents.LowerTarget.{LowerTarget, handle_in_arg, stop_called, target_after, target_called, target_posted, told, told_all, told_if_any, with_sent, without_request}
 use Rattle.wdf_model.proofs.Tests.{both_right}
-use Rattle.wdf_model.specs.agents.AnyAgent as agent
-use Rattle.wdf_model.specs.agents.AnyAgent.{AnyAgent, agent_at, agent_meaning}
+use Rattle.wdf_dev.specs.Agents as dev
+use Rattle.wdf_dev.specs.Agents.{agent_at, agent_meaning}
+use Rattle.wdf_dev.specs.declared.any.AnyAgent.{AnyAgent}
+use Rattle.wdf_dev.specs.declared.any.AnyAgent.TheVariants as agent
 use Rattle.law_at_rest.proofs.Agents.{have}
 use Rattle.law_at_rest.proofs.Devices.{IsActOf, IsSuch, begin_such, such_after}
 use Rattle.law_at_rest.proofs.Lines.{app_lines}
@@ -110,14 +112,14 @@ IsItself plan k (agent.App p) = HasLines plan k p × (list_all (app_post plan) (
 IsItself plan k (agent.Device d) = IsSuch (IsActOf plan (device_of_agent plan k)) k d
 IsItself plan k (agent.LowerTarget t) = IsOfTarget plan k t
 
-itself_after : (plan : Plan) (k : ℕ) (a : AnyAgent) (e : Event) → IsItself plan k a → IsItself plan k (agent.agent_after a e)
+itself_after : (plan : Plan) (k : ℕ) (a : AnyAgent) (e : Event) → IsItself plan k a → IsItself plan k (dev.agent_after a e)
 itself_after plan k (agent.PnpManager p) e h = (lines_after plan k p e h.0, h.1)
 itself_after plan k (agent.App p) e h = (lines_after plan k p e h.0, h.1)
 itself_after plan k (agent.Device d) e h = such_after (IsActOf plan (device_of_agent plan k)) k d e h
 itself_after plan k (agent.LowerTarget t) e h = target_still plan k t e h
 
 module _ (plan : Plan) (resolved : IsResolved plan) where
-  begin_last : (k : ℕ) → (k == 0) ≡ false → is_app plan k ≡ false → (d t : Option ℕ) → device_of_agent plan k ≡ d → target_of_agent plan k ≡ t → IsItself plan k (agent.device_or_target plan k d t)
+  begin_last : (k : ℕ) → (k == 0) ≡ false → is_app plan k ≡ false → (d t : Option ℕ) → device_of_agent plan k ≡ d → target_of_agent plan k ≡ t → IsItself plan k (dev.device_or_target plan k d t)
   begin_last k e f (Some d) t at on =
       rw at (record { number = refl; actions = begin_such plan resolved k d at })
   begin_last k e f None (Some t) at on = record { number = refl; target = on }

@@ -45,8 +45,9 @@ use Rattle.wdf_model.specs.rules.Steps.{after, deeds, may, view_of}
 use Rattle.wdf_model.proofs.Counts.{count_cons}
 use Rattle.wdf_model.proofs.Runs.{along_run}
 use Rattle.wdf_model.proofs.Tests.{both_left, both_right, itself, not_false}
-use Rattle.wdf_model.specs.agents.AnyAgent.{AnyAgent, agent_meaning}
-use Rattle.wdf_model.specs.agents.AnyAgent as agent
+use Rattle.wdf_dev.specs.Agents.{agent_meaning}
+use Rattle.wdf_dev.specs.declared.any.AnyAgent.{AnyAgent}
+use Rattle.wdf_dev.specs.declared.any.AnyAgent.TheVariants as agent
 use Rattle.law_machine_base.specs.Fits.{all_fit, fits}
 use Rattle.law_machine_base.specs.OverRuns.{PlacesAgree}
 use Rattle.law_machine_base.proofs.Fits.{wrong_kind_of_first}

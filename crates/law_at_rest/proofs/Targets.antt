@@ -40,8 +40,10 @@ use Rattle.wdf_model.specs.rules.Steps.{after, deeds, may}
 use Rattle.wdf_model.proofs.Counts.{both_fewer, count_behind, count_cons, count_mapped, count_of_one, filter_less, filter_none, found_at_its_target, one_or_two}
 use Rattle.wdf_model.proofs.Runs.{along_run}
 use Rattle.wdf_model.proofs.Tests.{both_left, both_right, itself}
-use Rattle.wdf_model.specs.agents.AnyAgent as agent
-use Rattle.wdf_model.specs.agents.AnyAgent.{AnyAgent, agent_meaning}
+use Rattle.wdf_dev.specs.Agents as dev
+use Rattle.wdf_dev.specs.Agents.{agent_meaning}
+use Rattle.wdf_dev.specs.declared.any.AnyAgent.{AnyAgent}
+use Rattle.wdf_dev.specs.declared.any.AnyAgent.TheVariants as agent
 use Rattle.wdf_laws.specs.Events.{argument_object}
 use Rattle.law_machine_base.specs.OverRuns.{PlacesAgree}
 use Rattle.law_machine_base.proofs.Follows.{follows, state_goes_on}
@@ -305,21 +307,21 @@ pub record WasTarget (e : Event) (xs : List AnyAgent) (k : ℕ) (u : LowerTarget
   pub there : slice_get xs k ≡ Some (agent.LowerTarget before)
   pub same : target_after before e ≡ u
 
-of_kind : (e : Event) (xs : List AnyAgent) (k : ℕ) (u : LowerTarget) (a : AnyAgent) → slice_get xs k ≡ Some a → agent.agent_after a e ≡ agent.LowerTarget u → WasTarget e xs k u
+of_kind : (e : Event) (xs : List AnyAgent) (k : ℕ) (u : LowerTarget) (a : AnyAgent) → slice_get xs k ≡ Some a → dev.agent_after a e ≡ agent.LowerTarget u → WasTarget e xs k u
 of_kind e xs k u (agent.LowerTarget t) at h = record { before = t; there = at; same = let same : target_after t e ≡ u = cc in same }
 of_kind e xs k u (agent.PnpManager p) at h = absurd (let z : ⊥ = cc in z)
 of_kind e xs k u (agent.App p) at h = absurd (let z : ⊥ = cc in z)
 of_kind e xs k u (agent.Device d) at h = absurd (let z : ⊥ = cc in z)
 
-heard_by : (e : Event) (xs : List AnyAgent) (k : ℕ) (u : LowerTarget) (o : Option AnyAgent) → slice_get xs k ≡ o → option_map (λ a. agent.agent_after a e) o ≡ Some (agent.LowerTarget u) → WasTarget e xs k u
+heard_by : (e : Event) (xs : List AnyAgent) (k : ℕ) (u : LowerTarget) (o : Option AnyAgent) → slice_get xs k ≡ o → option_map (λ a. dev.agent_after a e) o ≡ Some (agent.LowerTarget u) → WasTarget e xs k u
 heard_by e xs k u None at h = absurd (let z : ⊥ = cc in z)
-heard_by e xs k u (Some a) at h = of_kind e xs k u a at (same_Some (agent.agent_after a e) (agent.LowerTarget u) h)
+heard_by e xs k u (Some a) at h = of_kind e xs k u a at (same_Some (dev.agent_after a e) (agent.LowerTarget u) h)
 
 pub was_target : (e : Event) (xs : List AnyAgent) (k : ℕ) (u : LowerTarget) → slice_get (heard agent_meaning e xs) k ≡ Some (agent.LowerTarget u) → WasTarget e xs k u
 was_target e xs k u =
     told_as agent_meaning (λ ys. slice_get ys k ≡ Some (agent.LowerTarget u) → WasTarget e xs k u) e xs
     (λ inside at. record { before = u; there = at; same = target_inside u e inside })
-    (λ at. heard_by e xs k u (slice_get xs k) refl (sym (slice_get-map (λ a. agent.agent_after a e) xs k) ∙ at))
+    (λ at. heard_by e xs k u (slice_get xs k) refl (sym (slice_get-map (λ a. dev.agent_after a e) xs k) ∙ at))
 
 -- what each target has is at it
 abbrev pub AreThere : State AnyAgent → Type 0
@@ -335,17 +337,17 @@ either_fresh true x y h k = h
 either_fresh false x y h k = k
 
 module _ (plan : Plan) where
-  last_fresh : (k : ℕ) (d t : Option ℕ) → IsFresh (agent.device_or_target plan k d t)
+  last_fresh : (k : ℕ) (d t : Option ℕ) → IsFresh (dev.device_or_target plan k d t)
   last_fresh k (Some d) t = tt
   last_fresh k None (Some t) = refl
   last_fresh k None None = tt
 
-  begin_fresh : (k : ℕ) → IsFresh (agent.agent_at plan k)
+  begin_fresh : (k : ℕ) → IsFresh (dev.agent_at plan k)
   begin_fresh k = either_fresh (k == 0) _ _ tt (either_fresh (is_app plan k) _ _ tt (last_fresh k (device_of_agent plan k) (target_of_agent plan k)))
 
-  pub all_fresh : (n count k : ℕ) (a : AnyAgent) → slice_get (map (agent.agent_at plan) (range_with_len n count)) k ≡ Some a → IsFresh a
+  pub all_fresh : (n count k : ℕ) (a : AnyAgent) → slice_get (map (dev.agent_at plan) (range_with_len n count)) k ≡ Some a → IsFresh a
   all_fresh n zero k a at = absurd (let z : ⊥ = cc in z)
-  all_fresh n (suc count) zero a at = subst IsFresh (same_Some (agent.agent_at plan n) a at) (begin_fresh n)
+  all_fresh n (suc count) zero a at = subst IsFresh (same_Some (dev.agent_at plan n) a at) (begin_fresh n)
   all_fresh n (suc count) (suc k) a at = all_fresh (n + 1) count k a at
 
 module _ (plan : Plan) (resolved : IsResolved plan) where

@@ -17,8 +17,9 @@ use Rattle.wdf_model.specs.parts.Pnp.{busy}
 use Rattle.wdf_model.specs.State.{State}
 use Rattle.wdf_model.specs.rules.Posts.{due_of, post_fits}
 use Rattle.wdf_model.specs.rules.Ready.{any_spends}
-use Rattle.wdf_model.specs.agents.AnyAgent.{AnyAgent, agent_meaning}
-use Rattle.wdf_model.specs.agents.AnyAgent as agent
+use Rattle.wdf_dev.specs.Agents.{agent_meaning}
+use Rattle.wdf_dev.specs.declared.any.AnyAgent.{AnyAgent}
+use Rattle.wdf_dev.specs.declared.any.AnyAgent.TheVariants as agent
 
 -- nothing waits for time, and what is due can't come
 pub record NothingComes {A : Type 0} (plan : Plan) (m : Meaning A) (S : State A) : Type 0 where

@@ -17,7 +17,7 @@ ghost use Rattle.wdf_base.specs.declared.plan.Plan.{Plan};
 ghost use Rattle.wdf_base.specs.declared.event.Event.{Event};
 ghost use Rattle.wdf_base.specs.declared.event.Ending.TheVariants as ending;
 ghost use Rattle.wdf_model.specs.rules.Ready.{IsRunOf, ending_of, state_after};
-ghost use Rattle.wdf_model.specs.agents.AnyAgent.{agent_meaning};
+ghost use Rattle.wdf_dev.specs.Agents.{agent_meaning};
 ghost use Rattle.law_at_rest.specs.Rest.{AllOver, AllPlayed, AsksAreDue, NothingComes};
 
 /// Where a run has finished or is stuck, no frame spends time, and no timer and no agent waits for a later tick. What an

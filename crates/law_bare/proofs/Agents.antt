@@ -19,8 +19,10 @@ use Rattle.wdf_model.specs.rules.Ready.{IsPickedRun, IsRunOf}
 use Rattle.wdf_model.specs.agents.App as app
 use Rattle.wdf_model.specs.agents.Device.{Device, accessed, act_on, action_post, at_once, delay_of, device_actions, device_after, device_at, device_due, device_next, due_action, first_done, has_register, is_due_at, later_tick, own_register, posted_action, set_off, set_off_all, stored, triggers, with_register}
 use Rattle.wdf_model.specs.agents.LowerTarget.{LowerTarget, target_after, target_at}
-use Rattle.wdf_model.specs.agents.AnyAgent as agent
-use Rattle.wdf_model.specs.agents.AnyAgent.{AnyAgent, agent_meaning}
+use Rattle.wdf_dev.specs.Agents as dev
+use Rattle.wdf_dev.specs.Agents.{agent_meaning}
+use Rattle.wdf_dev.specs.declared.any.AnyAgent.{AnyAgent}
+use Rattle.wdf_dev.specs.declared.any.AnyAgent.TheVariants as agent
 use Rattle.law_bare.specs.Agents.{SameActions, bare_action, bare_agent_of, bare_app, bare_device}
 use Rattle.law_bare.specs.Bare.{HasLikePicked, HasLikeRun, SeesNoLines, bare_event}
 use Rattle.law_bare.specs.Lines.{bare_agent, bare_post, bare_when, bare_plan}
@@ -153,25 +155,25 @@ target_fold_same t _ = refl
 pub unseen_by_all : SeesNoLines agent_meaning bare_agent_of
 unseen_by_all = record { due = due; next = next; value = value; fold = folds }
   where
-    due : (a : AnyAgent) → agent.agent_due (bare_agent_of a) ≡ agent.agent_due a
+    due : (a : AnyAgent) → dev.agent_due (bare_agent_of a) ≡ dev.agent_due a
     due (agent.PnpManager p) = app_due_same p
     due (agent.App p) = app_due_same p
     due (agent.Device d) = device_due_same d
     due (agent.LowerTarget t) = refl
 
-    next : (a : AnyAgent) → agent.agent_next (bare_agent_of a) ≡ agent.agent_next a
+    next : (a : AnyAgent) → dev.agent_next (bare_agent_of a) ≡ dev.agent_next a
     next (agent.PnpManager p) = app_next_same p
     next (agent.App p) = app_next_same p
     next (agent.Device d) = device_next_same d
     next (agent.LowerTarget t) = refl
 
-    value : (a : AnyAgent) (what : ℕ) → agent.agent_value (bare_agent_of a) what ≡ agent.agent_value a what
+    value : (a : AnyAgent) (what : ℕ) → dev.agent_value (bare_agent_of a) what ≡ dev.agent_value a what
     value (agent.PnpManager p) what = refl
     value (agent.App p) what = refl
     value (agent.Device d) what = refl
     value (agent.LowerTarget t) what = refl
 
-    folds : (a : AnyAgent) (e : Event) → agent.agent_after (bare_agent_of a) (bare_event e) ≡ bare_agent_of (agent.agent_after a e)
+    folds : (a : AnyAgent) (e : Event) → dev.agent_after (bare_agent_of a) (bare_event e) ≡ bare_agent_of (dev.agent_after a e)
     folds (agent.PnpManager p) e = ap agent.PnpManager (app_fold_same p e)
     folds (agent.App p) e = ap agent.App (app_fold_same p e)
     folds (agent.Device d) e = ap agent.Device (device_fold_same d e)
@@ -204,17 +206,17 @@ module _ (plan : Plan) (k : ℕ) where
   abbrev acts : ℕ → List DeviceAction
   acts d = map bare_action (device_actions plan d k)
 
-  last_bare : (d t : Option ℕ) → bare_agent_of (agent.device_or_target plan k d t) ≡ last_from (bare_plan plan) acts k d t
+  last_bare : (d t : Option ℕ) → bare_agent_of (dev.device_or_target plan k d t) ≡ last_from (bare_plan plan) acts k d t
   last_bare (Some d) t = refl
   last_bare None (Some t) = refl
   last_bare None None = ap agent.App (app_bare k)
 
-  begin_by : (first second : Bool) → (k == 0) ≡ first → is_app plan k ≡ second → bare_agent_of (agent.agent_at plan k) ≡ agent_from (bare_plan plan) acts k
+  begin_by : (first second : Bool) → (k == 0) ≡ first → is_app plan k ≡ second → bare_agent_of (dev.agent_at plan k) ≡ agent_from (bare_plan plan) acts k
   begin_by true second e f = rw e (ap agent.PnpManager (app_bare 0))
   begin_by false true e f = rw (e, is_app_same plan k, f) (ap agent.App (app_bare k))
   begin_by false false e f = rw (e, is_app_same plan k, f, device_of_same plan k, target_of_same plan k) (last_bare (device_of_agent plan k) (target_of_agent plan k))
 
-  begin_bare : bare_agent_of (agent.agent_at plan k) ≡ agent_from (bare_plan plan) acts k
+  begin_bare : bare_agent_of (dev.agent_at plan k) ≡ agent_from (bare_plan plan) acts k
   begin_bare = begin_by (k == 0) (is_app plan k) refl refl
 
 module _ (one two : Plan) (plans : bare_plan one ≡ bare_plan two) (actions : SameActions one two) (k : ℕ) where
@@ -226,7 +228,7 @@ module _ (one two : Plan) (plans : bare_plan one ≡ bare_plan two) (actions : S
   acts_same : (P : Plan) → agent_from P (acts one k) k ≡ agent_from P (acts two k) k
   acts_same P = ap (λ a. if k == 0 then agent.PnpManager (app.app_at P 0) else if is_app P k then agent.App (app.app_at P k) else a) (last_acts P (device_of_agent P k) (target_of_agent P k))
 
-  pub begins_alike : bare_agent_of (agent.agent_at one k) ≡ bare_agent_of (agent.agent_at two k)
+  pub begins_alike : bare_agent_of (dev.agent_at one k) ≡ bare_agent_of (dev.agent_at two k)
   begins_alike = begin_bare one k ∙ acts_same (bare_plan one) ∙ ap (λ P. agent_from P (acts two k) k) plans ∙ sym (begin_bare two k)
 
 pub usual_picked : (one two : Plan) → bare_plan one ≡ bare_plan two → SameActions one two → (picks : List ℕ) (run : List Event) → IsPickedRun one agent_meaning picks run → HasLikePicked one two agent_meaning picks run

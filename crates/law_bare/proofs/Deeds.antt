@@ -32,7 +32,7 @@ use Rattle.wdf_model.specs.parts.Requests as requests
 use Rattle.wdf_model.specs.parts.Requests.{info_of}
 use Rattle.wdf_model.specs.parts.Targets as targets
 use Rattle.wdf_model.specs.parts.Tree.{life_of, subtree}
-use Rattle.wdf_model.specs.State.{State, declared_in, is_with_driver, returns_from, withdrawn_place}
+use Rattle.wdf_model.specs.State.{State, declared_in, is_with_driver, returns_to, withdrawn_place}
 use Rattle.wdf_model.specs.rules.Calls.{forwards_nowhere, is_met_then, outcome}
 use Rattle.wdf_model.specs.rules.Deeds.{arrive_at, ask_object, ask_objects, cancel_in, close_queue, close_returning, do_deed, do_deeds, enter_at_head, enter_at_tail, give_up, give_up_if, queued, with_place, withdraw}
 use Rattle.wdf_model.specs.rules.Posts.{arrival_deeds, place_if_any, post_deeds}
@@ -50,7 +50,7 @@ with_agents agents S = record S { agents = agents }
 module _ {A : Type 0} (plan : Plan) (agents : List A) where
   -- ---- deeds
 
-  returns_same : (S : State A) (q : ℕ) → returns_from (bare_plan plan) (with_agents agents S) q ≡ returns_from plan S q
+  returns_same : (S : State A) (q : ℕ) → returns_to (bare_plan plan) (with_agents agents S) q ≡ returns_to plan S q
   returns_same S q = rw (declares_same plan callback.EvtIoCanceledOnQueue q) refl
 
   place_same : (S : State A) (q r : ℕ) → withdrawn_place (bare_plan plan) (with_agents agents S) q r ≡ withdrawn_place plan S q r

@@ -4,8 +4,8 @@ use Rattle.wdf_base.specs.declared.plan.Plan.{Plan}
 use Rattle.wdf_model.specs.declared.entries.DeviceAction.{DeviceAction}
 use Rattle.wdf_model.specs.agents.App.{App}
 use Rattle.wdf_model.specs.agents.Device.{Device, device_actions}
-use Rattle.wdf_model.specs.agents.AnyAgent.{AnyAgent}
-use Rattle.wdf_model.specs.agents.AnyAgent as agent
+use Rattle.wdf_dev.specs.declared.any.AnyAgent.{AnyAgent}
+use Rattle.wdf_dev.specs.declared.any.AnyAgent.TheVariants as agent
 use Rattle.law_bare.specs.Lines.{bare_post, bare_when}
 
 -- an app, or the Plug and Play manager, with the number 0 for each of its lines

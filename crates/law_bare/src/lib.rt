@@ -18,7 +18,7 @@ ghost use Rattle.wdf_base.specs.Meaning.{Meaning};
 ghost use Rattle.wdf_base.specs.declared.plan.Plan.{Plan};
 ghost use Rattle.wdf_base.specs.declared.event.Event.{Event};
 ghost use Rattle.wdf_model.specs.rules.Ready.{IsPickedRun, IsRunOf};
-ghost use Rattle.wdf_model.specs.agents.AnyAgent.{agent_meaning};
+ghost use Rattle.wdf_dev.specs.Agents.{agent_meaning};
 ghost use Rattle.law_bare.specs.Agents.{SameActions};
 ghost use Rattle.law_bare.specs.Bare.{HasLikePicked, HasLikeRun, SeesNoLines};
 ghost use Rattle.law_bare.specs.Lines.{bare_plan};

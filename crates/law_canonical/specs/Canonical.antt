@@ -8,7 +8,7 @@ use Rattle.wdf_parse.specs.StandsFor.{StandsFor, without_numbers}
 use Rattle.wdf_refusals.specs.First.{first_refusal}
 use Rattle.wdf_plan.specs.Plans.{plan_of}
 use Rattle.wdf_model.specs.rules.Ready.{IsPickedRun, IsRunOf}
-use Rattle.wdf_model.specs.agents.AnyAgent.{agent_meaning}
+use Rattle.wdf_dev.specs.Agents.{agent_meaning}
 use Rattle.law_bare.specs.Bare.{HasLikePicked, HasLikeRun}
 use Rattle.law_bare.specs.Lines.{without_lines}
 

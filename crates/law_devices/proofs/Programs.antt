@@ -1,19 +1,19 @@
 -- The agents of the program, of its idle runs and of its stacks have the devices of the machine's definitions.
-use Rattle.std.proofs.Common.{if◌then◌else◌, true≢false, ◌∙◌, Option, ◌≡◌, ◌+◌, ◌-◌, ◌==◌, nat_lt, ℕ, Bool, true, false, ◌&&◌, length, slice_get, Some, None, refl, ap, arith}
-use Rattle.std.proofs.lemmas.Bool.{lt-ltb, ltb-false}
+use Rattle.std.proofs.Common.{◌≡◌, ◌==◌, nat_lt, ℕ, Bool, true, false, ◌&&◌, Some, None, refl, ap, arith}
 use Rattle.std.proofs.lemmas.Bool.Decides.{nat_tests}
-use Rattle.std.proofs.lemmas.Option.{slice_get_within}
 use Rattle.wdf_base.specs.declared.plan.Plan.{Plan}
 use Rattle.wdf_base.specs.declared.event.Event.{Event}
-use Rattle.wdf_model.specs.Plans.{device_of_agent, devices_of, first_device_agent, is_app, target_of_agent}
-use Rattle.wdf_model.specs.agents.StackManager.{stack_manager_at}
+use Rattle.wdf_model.specs.Plans.{device_of_agent, first_device_agent, is_app}
 use Rattle.wdf_model.specs.agents.Device.{Device, device_after, device_at, device_due, device_value}
-use Rattle.wdf_model.specs.agents.AnyAgent as usual
-use Rattle.wdf_model.specs.agents.AnyAgent.{AnyAgent}
-use Rattle.wdf_model.specs.agents.IdleAgent as idling
-use Rattle.wdf_model.specs.agents.IdleAgent.{IdleAgent}
-use Rattle.wdf_model.specs.agents.StackAgent as stacks
-use Rattle.wdf_model.specs.agents.StackAgent.{StackAgent}
+use Rattle.wdf_dev.specs.Agents as usual
+use Rattle.wdf_dev.specs.declared.any.AnyAgent.{AnyAgent}
+use Rattle.wdf_dev.specs.declared.any.AnyAgent.TheVariants as any
+use Rattle.wdf_idle.specs.Agents as idling
+use Rattle.wdf_idle.specs.declared.idle_agent.IdleAgent.{IdleAgent}
+use Rattle.wdf_idle.specs.declared.idle_agent.IdleAgent.TheVariants as idle
+use Rattle.wdf_stack.specs.Agents as stacks
+use Rattle.wdf_stack.specs.declared.agents.StackAgent.{StackAgent}
+use Rattle.wdf_stack.specs.declared.agents.StackAgent.TheVariants as stack
 use Rattle.law_devices.specs.Agents.{HasDevices, idle_device, stack_device, usual_device}
 
 -- a device's agent comes after the manager and the apps
@@ -36,17 +36,17 @@ usual_begins : (plan : Plan) (k d : ℕ) → device_of_agent plan k ≡ Some d �
 usual_begins plan k d own = let l = late plan k d own in rw (l.0, l.1, own) refl
 
 usual_hears : (a : AnyAgent) (h : Device) (e : Event) → usual_device a ≡ Some h → usual_device (usual.agent_after a e) ≡ Some (device_after h e)
-usual_hears (usual.Device g) h e is = ap (λ x. Some (device_after x e)) (let same : g ≡ h = cc in same)
-usual_hears (usual.PnpManager p) h e is = absurd (let z : ⊥ = cc in z)
-usual_hears (usual.App p) h e is = absurd (let z : ⊥ = cc in z)
-usual_hears (usual.LowerTarget t) h e is = absurd (let z : ⊥ = cc in z)
+usual_hears (any.Device g) h e is = ap (λ x. Some (device_after x e)) (let same : g ≡ h = cc in same)
+usual_hears (any.PnpManager p) h e is = absurd (let z : ⊥ = cc in z)
+usual_hears (any.App p) h e is = absurd (let z : ⊥ = cc in z)
+usual_hears (any.LowerTarget t) h e is = absurd (let z : ⊥ = cc in z)
 
 usual_posts : (a : AnyAgent) (h : Device) → usual_device a ≡ Some h → usual.agent_due a ≡ device_due h
-usual_posts (usual.Device g) h is = ap device_due (let same : g ≡ h = cc in same)
+usual_posts (any.Device g) h is = ap device_due (let same : g ≡ h = cc in same)
 usual_posts _ h is = absurd (let z : ⊥ = cc in z)
 
 usual_shows : (a : AnyAgent) (h : Device) (what : ℕ) → usual_device a ≡ Some h → usual.agent_value a what ≡ device_value h what
-usual_shows (usual.Device g) h what is = ap (λ x. device_value x what) (let same : g ≡ h = cc in same)
+usual_shows (any.Device g) h what is = ap (λ x. device_value x what) (let same : g ≡ h = cc in same)
 usual_shows _ h what is = absurd (let z : ⊥ = cc in z)
 
 pub usual_have : HasDevices usual.agent_meaning usual_device
@@ -58,53 +58,35 @@ idle_begins : (plan : Plan) (k d : ℕ) → device_of_agent plan k ≡ Some d �
 idle_begins plan k d own = let l = late plan k d own in rw (l.0, l.1, own) refl
 
 idle_hears : (a : IdleAgent) (h : Device) (e : Event) → idle_device a ≡ Some h → idle_device (idling.idle_agent_after a e) ≡ Some (device_after h e)
-idle_hears (idling.Usual a) h e is = usual_hears a h e is
-idle_hears (idling.Policy p) h e is = absurd (let z : ⊥ = cc in z)
+idle_hears (idle.Usual a) h e is = usual_hears a h e is
+idle_hears (idle.Policy p) h e is = absurd (let z : ⊥ = cc in z)
 
 idle_posts : (a : IdleAgent) (h : Device) → idle_device a ≡ Some h → idling.idle_agent_due a ≡ device_due h
-idle_posts (idling.Usual a) h is = usual_posts a h is
-idle_posts (idling.Policy p) h is = absurd (let z : ⊥ = cc in z)
+idle_posts (idle.Usual a) h is = usual_posts a h is
+idle_posts (idle.Policy p) h is = absurd (let z : ⊥ = cc in z)
 
 idle_shows : (a : IdleAgent) (h : Device) (what : ℕ) → idle_device a ≡ Some h → idling.idle_agent_value a what ≡ device_value h what
-idle_shows (idling.Usual a) h what is = usual_shows a h what is
-idle_shows (idling.Policy p) h what is = absurd (let z : ⊥ = cc in z)
+idle_shows (idle.Usual a) h what is = usual_shows a h what is
+idle_shows (idle.Policy p) h what is = absurd (let z : ⊥ = cc in z)
 
 pub idle_have : HasDevices idling.idle_meaning idle_device
 idle_have = record { begins = idle_begins; hears = idle_hears; posts = idle_posts; shows = idle_shows }
 
 -- ---- the agents of stacks
 
--- a device's agent is no target's
-no_target_by : (plan : Plan) (k d : ℕ) (late : Bool) → nat_lt k (first_device_agent plan) ≡ late → device_of_agent plan k ≡ Some d → target_of_agent plan k ≡ None
-no_target_by plan k d true e h = absurd (let n : None ≡ Some d = rw e at h in let z : ⊥ = cc in z)
-no_target_by plan k d false e h =
-    let from = ltb-false k (first_device_agent plan) e in
-    let at : slice_get (devices_of plan) (k - first_device_agent plan) ≡ Some d = rw e at h in
-    let less = slice_get_within (devices_of plan) (k - first_device_agent plan) d at in
-    let early : nat_lt k (first_device_agent plan + length (devices_of plan)) ≡ true = lt-ltb k (first_device_agent plan + length (devices_of plan)) (omega (arith, from, less)) in
-    rw early refl
+stack_begins : (plan : Plan) (k d : ℕ) → device_of_agent plan k ≡ Some d → stack_device (stacks.agent_at plan k) ≡ Some (device_at plan d k)
+stack_begins plan k d own = let l = late plan k d own in rw (l.0, l.1, own) refl
 
-as_usual : (plan : Plan) (k : ℕ) (first : Bool) (t : Option ℕ) → first ≡ false → t ≡ None
-    → stack_device (if first then stacks.StackManager (stack_manager_at plan) else stacks.target_or_usual plan k t) ≡ usual_device (usual.agent_at plan k)
-as_usual plan k false None e f = refl
-as_usual plan k false (Some x) e f = absurd (let z : ⊥ = cc in z)
-as_usual plan k true t e f = absurd (true≢false e)
-
-stack_begins : (plan : Plan) (k d : ℕ) → device_of_agent plan k ≡ Some d → stack_device (stacks.stack_agent_at plan k) ≡ Some (device_at plan d k)
-stack_begins plan k d own =
-    as_usual plan k (k == 0) (target_of_agent plan k) (late plan k d own).0 (no_target_by plan k d (nat_lt k (first_device_agent plan)) refl own)
-    ∙ usual_begins plan k d own
-
-stack_hears : (a : StackAgent) (h : Device) (e : Event) → stack_device a ≡ Some h → stack_device (stacks.stack_agent_after a e) ≡ Some (device_after h e)
-stack_hears (stacks.Usual a) h e is = usual_hears a h e is
+stack_hears : (a : StackAgent) (h : Device) (e : Event) → stack_device a ≡ Some h → stack_device (stacks.agent_after a e) ≡ Some (device_after h e)
+stack_hears (stack.Device g) h e is = ap (λ x. Some (device_after x e)) (let same : g ≡ h = cc in same)
 stack_hears _ h e is = absurd (let z : ⊥ = cc in z)
 
-stack_posts : (a : StackAgent) (h : Device) → stack_device a ≡ Some h → stacks.stack_agent_due a ≡ device_due h
-stack_posts (stacks.Usual a) h is = usual_posts a h is
+stack_posts : (a : StackAgent) (h : Device) → stack_device a ≡ Some h → stacks.agent_due a ≡ device_due h
+stack_posts (stack.Device g) h is = ap device_due (let same : g ≡ h = cc in same)
 stack_posts _ h is = absurd (let z : ⊥ = cc in z)
 
-stack_shows : (a : StackAgent) (h : Device) (what : ℕ) → stack_device a ≡ Some h → stacks.stack_agent_value a what ≡ device_value h what
-stack_shows (stacks.Usual a) h what is = usual_shows a h what is
+stack_shows : (a : StackAgent) (h : Device) (what : ℕ) → stack_device a ≡ Some h → stacks.agent_value a what ≡ device_value h what
+stack_shows (stack.Device g) h what is = ap (λ x. device_value x what) (let same : g ≡ h = cc in same)
 stack_shows _ h what is = absurd (let z : ⊥ = cc in z)
 
 pub stack_have : HasDevices stacks.stack_meaning stack_device

@@ -5,12 +5,12 @@ use Rattle.wdf_base.specs.declared.plan.Plan.{Plan}
 use Rattle.wdf_base.specs.declared.event.Event.{Event}
 use Rattle.wdf_model.specs.Plans.{device_of_agent}
 use Rattle.wdf_model.specs.agents.Device.{Device, device_after, device_at, device_due, device_value}
-use Rattle.wdf_model.specs.agents.AnyAgent.{AnyAgent}
-use Rattle.wdf_model.specs.agents.AnyAgent as any
-use Rattle.wdf_model.specs.agents.IdleAgent.{IdleAgent}
-use Rattle.wdf_model.specs.agents.IdleAgent as idle
-use Rattle.wdf_model.specs.agents.StackAgent.{StackAgent}
-use Rattle.wdf_model.specs.agents.StackAgent as stack
+use Rattle.wdf_dev.specs.declared.any.AnyAgent.{AnyAgent}
+use Rattle.wdf_dev.specs.declared.any.AnyAgent.TheVariants as any
+use Rattle.wdf_idle.specs.declared.idle_agent.IdleAgent.{IdleAgent}
+use Rattle.wdf_idle.specs.declared.idle_agent.IdleAgent.TheVariants as idle
+use Rattle.wdf_stack.specs.declared.agents.StackAgent.{StackAgent}
+use Rattle.wdf_stack.specs.declared.agents.StackAgent.TheVariants as stack
 
 -- own: seen through `device`, the agent of each device begins as the device, hears of events as it does, and posts and
 -- shows what it does
@@ -32,5 +32,5 @@ idle_device _ = None
 
 -- the device that an agent of `stack` is
 abbrev pub stack_device : StackAgent → Option Device
-stack_device (stack.Usual a) = usual_device a
+stack_device (stack.Device h) = Some h
 stack_device _ = None

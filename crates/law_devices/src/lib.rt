@@ -27,9 +27,9 @@ ghost use Rattle.wdf_model.specs.Plans.{device_of_agent, device_of_register, int
 ghost use Rattle.wdf_model.specs.agents.Device.{Device};
 ghost use Rattle.wdf_model.specs.rules.Ready.{IsRunOf, state_after};
 ghost use Rattle.wdf_model.specs.rules.Starts.{device_of_interrupt, line_number, shown};
-ghost use Rattle.wdf_model.specs.agents.AnyAgent.{agent_meaning};
-ghost use Rattle.wdf_model.specs.agents.IdleAgent.{idle_meaning};
-ghost use Rattle.wdf_model.specs.agents.StackAgent.{stack_meaning};
+ghost use Rattle.wdf_dev.specs.Agents.{agent_meaning};
+ghost use Rattle.wdf_idle.specs.Agents.{idle_meaning};
+ghost use Rattle.wdf_stack.specs.Agents.{stack_meaning};
 ghost use Rattle.law_devices.specs.Agents.{HasDevices, idle_device, stack_device, usual_device};
 ghost use Rattle.law_devices.specs.Posting.{PostsItsActions};
 ghost use Rattle.law_devices.specs.Shown.{Line, Register, value_told};

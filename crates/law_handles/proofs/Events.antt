@@ -5,7 +5,7 @@ use Rattle.wdf_base.specs.Callbacks.{row_of}
 use Rattle.wdf_base.specs.Kinds.{class_kind, deferred_kind}
 use Rattle.wdf_base.specs.Lives.{is_asked, is_cleaned, is_live}
 use Rattle.wdf_base.specs.Same.{same_call_kind}
-use Rattle.wdf_base.specs.Places.{is_due, is_queued_in, is_returning_from, is_sent_to}
+use Rattle.wdf_base.specs.Places.{is_due, is_queued_in, is_returning_to, is_sent_to}
 use Rattle.wdf_base.specs.declared.plan.Plan.{Plan}
 use Rattle.wdf_base.specs.declared.ids.Cpu.{Cpu}
 use Rattle.wdf_base.specs.declared.ids.Handle.{Handle}
@@ -158,7 +158,7 @@ module _ {A : Type 0} (plan : Plan) (m : Meaning A) (S : State A) (known : Known
   ready_there : (k : Rank) (c : Callback) (o r : ℕ) → rank_ready_for plan S k c o r ≡ true → r < length S.tree.nodes
   ready_there rank.Completion c o r h = request_there r (inside no_request (λ x. is_sent_to o x.place) S.requests.all r refl (both_left (is_sent_to o (place_of S.requests r)) _ h))
   ready_there rank.Cancel c o r h = held_there r o (both_right (is_due (mark_of S.requests r)) (is_held_from S o r) h)
-  ready_there rank.CanceledOnQueue c o r h = request_there r (inside no_request (λ x. is_returning_from o x.place) S.requests.all r refl h)
+  ready_there rank.CanceledOnQueue c o r h = request_there r (inside no_request (λ x. is_returning_to o x.place) S.requests.all r refl h)
   ready_there rank.Stop c o r h = held_there r o (search (both_left, both_right))
   ready_there rank.Resume c o r h = held_there r o (both_right _ (is_held_from S o r) h)
   ready_there rank.Handler c o r h = front_there o r (search (both_left, both_right))

@@ -4,7 +4,7 @@
 ghost use Rattle.std.specs.Prelude.{◌≡◌, ◌≢◌, ℕ, List, None};
 ghost use Rattle.wdf_base.specs.declared.event.Event.{Event};
 ghost use Rattle.wdf_base.specs.declared.plan.Plan.{Plan};
-ghost use Rattle.wdf_model.specs.agents.AnyAgent.{agent_meaning};
+ghost use Rattle.wdf_dev.specs.Agents.{agent_meaning};
 ghost use Rattle.wdf_expect.specs.declared.rules.Expectation.{Expectation};
 ghost use Rattle.wdf_hunt.specs.Answers.{IsStoryText};
 ghost use Rattle.wdf_parse.specs.StandsFor.{StandsFor};

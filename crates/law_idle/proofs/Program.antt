@@ -5,8 +5,9 @@ use Rattle.wdf_base.specs.declared.event.Event.{Event}
 use Rattle.wdf_base.specs.Resolved.{IsResolved}
 use Rattle.wdf_model.specs.rules.Ready.{IsRunOf}
 use Rattle.wdf_model.specs.agents.IdlePolicy.{IdlePolicy, policy_after, policy_due}
-use Rattle.wdf_model.specs.agents.IdleAgent.{IdleAgent, idle_agent_after, idle_agent_due, idle_meaning}
-use Rattle.wdf_model.specs.agents.IdleAgent as agent
+use Rattle.wdf_idle.specs.Agents.{idle_meaning, idle_agent_after, idle_agent_due}
+use Rattle.wdf_idle.specs.declared.idle_agent.IdleAgent.{IdleAgent}
+use Rattle.wdf_idle.specs.declared.idle_agent.IdleAgent.TheVariants as agent
 use Rattle.law_idle.specs.Law.{keeps_idle_law}
 use Rattle.law_idle.specs.Policies.{HasPolicy}
 use Rattle.law_idle.proofs.InTime.{idle_law_at_each}

@@ -10,7 +10,7 @@ ghost use Rattle.wdf_base.specs.declared.event.Event.{Event};
 ghost use Rattle.wdf_base.specs.Resolved.{IsResolved};
 ghost use Rattle.wdf_model.specs.rules.Ready.{IsRunOf};
 ghost use Rattle.wdf_model.specs.agents.IdlePolicy.{IdlePolicy};
-ghost use Rattle.wdf_model.specs.agents.IdleAgent.{idle_meaning};
+ghost use Rattle.wdf_idle.specs.Agents.{idle_meaning};
 ghost use Rattle.law_idle.specs.Law.{keeps_idle_law};
 ghost use Rattle.law_idle.specs.Policies.{HasPolicy};
 

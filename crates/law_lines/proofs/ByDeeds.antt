@@ -16,7 +16,7 @@ use Rattle.wdf_base.specs.declared.value.Status.TheVariants as status
 use Rattle.wdf_base.specs.declared.value.Value.{Value}
 use Rattle.wdf_base.specs.declared.value.Value.TheVariants.{Num}
 use Rattle.wdf_base.specs.Lives.{is_live}
-use Rattle.wdf_base.specs.Places.{is_marked, is_returning_from}
+use Rattle.wdf_base.specs.Places.{is_marked, is_returning_to}
 use Rattle.wdf_model.specs.declared.enums.Mode.TheVariants as mode
 use Rattle.wdf_model.specs.declared.entries.Node.{Node}
 use Rattle.wdf_model.specs.declared.entries.Request.{Request}
@@ -221,7 +221,7 @@ all_withdrawn plan q (r ∷ rs) S each = all_withdrawn plan q rs (withdraw plan 
 
 all_returning : {A : Type 0} (qs : List ℕ) (S : State A) → AreSmall S.requests → AreSmall (fold close_returning S qs).requests
 all_returning [] S each = each
-all_returning (q ∷ qs) S each = all_returning qs (close_returning S q) (all_close S.requests (is_returning_from q) refl each)
+all_returning (q ∷ qs) S each = all_returning qs (close_returning S q) (all_close S.requests (is_returning_to q) refl each)
 
 all_closed : {A : Type 0} (qs : List ℕ) (S : State A) → AreSmall S.requests → AreSmall (fold close_queue S qs).requests
 all_closed [] S each = each

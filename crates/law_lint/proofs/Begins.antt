@@ -23,7 +23,7 @@ use Rattle.wdf_base.specs.Callbacks.{row_of}
 use Rattle.wdf_base.specs.Plan.{is_script_of}
 use Rattle.wdf_base.specs.Same.{same_callback}
 use Rattle.wdf_base.specs.SamePlan.{same_declared}
-use Rattle.wdf_base.specs.Places.{is_done, is_due, is_marked, is_owned, is_queued_in, is_returning_from, is_sent, is_sent_to}
+use Rattle.wdf_base.specs.Places.{is_done, is_due, is_marked, is_owned, is_queued_in, is_returning_to, is_sent, is_sent_to}
 use Rattle.wdf_model.specs.declared.entries.Request.{Request}
 use Rattle.wdf_model.specs.declared.entries.Running.{Running}
 use Rattle.wdf_model.specs.Ids.{cpu_of, frame_id, irql_of}
@@ -145,10 +145,10 @@ queued_got q o h s = by q.place refl h
     by (place.Sent w) e h = absurd (let z : ⊥ = cc in z)
     by place.Done e h = absurd (let z : ⊥ = cc in z)
 
-returning_got : (q : Request) (o : ℕ) → is_returning_from o q.place ≡ true → Sane q → Got q (moved place.Owned q)
+returning_got : (q : Request) (o : ℕ) → is_returning_to o q.place ≡ true → Sane q → Got q (moved place.Owned q)
 returning_got q o h s = by q.place refl h
   where
-    by : (x : Place) → q.place ≡ x → is_returning_from o x ≡ true → Got q (moved place.Owned q)
+    by : (x : Place) → q.place ≡ x → is_returning_to o x ≡ true → Got q (moved place.Owned q)
     by (place.Returning w) e h = record { undone = ap is_done e; loose = apart_loose q (ap is_owned e); now = record { owned = refl; off = unarmed q s (ap is_owned e); came = ap (λ x. is_none (origin_from x place.Owned q.info.origin)) e } }
     by place.Owned e h = absurd (let z : ⊥ = cc in z)
     by (place.Queued w) e h = absurd (let z : ⊥ = cc in z)

@@ -8,7 +8,7 @@ use Rattle.wdf_base.specs.declared.event.Step.{Step}
 use Rattle.wdf_base.specs.declared.event.Step.TheVariants as step
 use Rattle.wdf_base.specs.declared.object.Place.{Place}
 use Rattle.wdf_base.specs.declared.object.Place.TheVariants as place
-use Rattle.wdf_base.specs.Places.{is_closing, is_owned, is_queued_in, is_returning_from}
+use Rattle.wdf_base.specs.Places.{is_closing, is_owned, is_queued_in, is_returning_to}
 use Rattle.wdf_model.specs.declared.entries.Holding.{Holding}
 use Rattle.wdf_model.specs.declared.enums.Mode.TheVariants as mode
 use Rattle.wdf_model.specs.Plans.{is_managed, managed_queues, queues_of}
@@ -94,7 +94,7 @@ queued_unowned : (q : ℕ) (p : Place) → is_queued_in q p ≡ true → is_owne
 queued_unowned q (place.Queued w) h o = let z : ⊥ = cc in z
 queued_unowned q _ h o = let z : ⊥ = cc in z
 
-returning_unowned : (q : ℕ) (p : Place) → is_returning_from q p ≡ true → is_owned p ≡ true → ⊥
+returning_unowned : (q : ℕ) (p : Place) → is_returning_to q p ≡ true → is_owned p ≡ true → ⊥
 returning_unowned q (place.Returning w) h o = let z : ⊥ = cc in z
 returning_unowned q _ h o = let z : ⊥ = cc in z
 

@@ -10,7 +10,7 @@ use Rattle.wdf_base.specs.declared.object.Mark.TheVariants as marks
 use Rattle.wdf_base.specs.declared.object.Place.{Place}
 use Rattle.wdf_base.specs.declared.object.Place.TheVariants as place
 use Rattle.wdf_base.specs.declared.object.RequestInfo.{RequestInfo}
-use Rattle.wdf_base.specs.Places.{is_closing, is_done, is_due, is_marked, is_owned, is_queued_in, is_returning_from, is_sent}
+use Rattle.wdf_base.specs.Places.{is_closing, is_done, is_due, is_marked, is_owned, is_queued_in, is_returning_to, is_sent}
 use Rattle.wdf_model.specs.declared.enums.Mode.TheVariants as mode
 use Rattle.wdf_model.specs.declared.entries.Request.{Request}
 use Rattle.wdf_model.specs.Tables.{flag}
@@ -23,7 +23,7 @@ use Rattle.wdf_model.specs.parts.Queues.{waiting_in}
 use Rattle.wdf_model.specs.parts.Queues as queues
 use Rattle.wdf_model.specs.parts.Control as control
 use Rattle.wdf_model.specs.parts.Targets.{is_undone, routine_due}
-use Rattle.wdf_model.specs.State.{State, is_with_driver, returns_from, withdrawn_place}
+use Rattle.wdf_model.specs.State.{State, is_with_driver, returns_to, withdrawn_place}
 use Rattle.wdf_model.specs.declared.deed.Deed.{Deed}
 use Rattle.wdf_model.specs.declared.deed.Deed.TheVariants.{MakeRequest, Arrive, AskDeletion, EndLife, Present, Receive, Requeue, Forward, GiveBack, Withdraw, MarkRequest, UnmarkRequest, CancelRequest, TakeCancel, SendRequest, FinishSending, ComeBack, CompleteRequest, PurgeQueue, CloseReturning, CloseDevice}
 use Rattle.wdf_model.specs.rules.Deeds.{ask_objects, close_queue, close_returning, do_deed, enter_if_queued, give_up, give_up_if, queued, withdraw}
@@ -245,7 +245,7 @@ queued_loose : (q : ℕ) (p : Place) → is_queued_in q p ≡ true → (is_owned
 queued_loose q (place.Queued w) h = (refl, refl)
 queued_loose q _ h = absurd (let z : ⊥ = cc in z)
 
-returning_loose : (q : ℕ) (p : Place) → is_returning_from q p ≡ true → (is_owned p ≡ false) × (is_done p ≡ false)
+returning_loose : (q : ℕ) (p : Place) → is_returning_to q p ≡ true → (is_owned p ≡ false) × (is_done p ≡ false)
 returning_loose q (place.Returning w) h = (refl, refl)
 returning_loose q _ h = absurd (let z : ⊥ = cc in z)
 
@@ -298,7 +298,7 @@ changed_loose R r f h y l = elim (one_or_two y r) [
 ]
 
 withdrawn_loose : {A : Type 0} (plan : Plan) (S : State A) (q r : ℕ) → (is_owned (withdrawn_place plan S q r) ≡ false) × (is_done (withdrawn_place plan S q r) ≡ false)
-withdrawn_loose plan S q r = elim (cases_Bool ((info_of S.requests r).received && returns_from plan S q)) [
+withdrawn_loose plan S q r = elim (cases_Bool ((info_of S.requests r).received && returns_to plan S q)) [
   | inl e ↦ rw e (refl, refl)
   | inr e ↦ rw e (refl, refl)
 ]
@@ -328,7 +328,7 @@ line_loose S q k = members_loose (waiting_in S.queues q) S.requests
 
 all_returning : {A : Type 0} (x : ℕ) (qs : List ℕ) (S : State A) → LaterAt x S.requests (fold close_returning S qs).requests
 all_returning x [] S = at_same x S.requests S.requests refl
-all_returning x (q ∷ qs) S = at_then x S.requests (close_returning S q).requests (fold close_returning (close_returning S q) qs).requests (all_close x S.requests (is_returning_from q) refl (returning_loose q)) (all_returning x qs (close_returning S q))
+all_returning x (q ∷ qs) S = at_then x S.requests (close_returning S q).requests (fold close_returning (close_returning S q) qs).requests (all_close x S.requests (is_returning_to q) refl (returning_loose q)) (all_returning x qs (close_returning S q))
 
 all_closed : {A : Type 0} (x : ℕ) (qs : List ℕ) (S : State A) → LaterAt x S.requests (fold close_queue S qs).requests
 all_closed x [] S = at_same x S.requests S.requests refl

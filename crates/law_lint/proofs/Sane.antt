@@ -11,7 +11,7 @@ use Rattle.wdf_base.specs.declared.object.Mark.TheVariants as marks
 use Rattle.wdf_base.specs.declared.object.Place.{Place}
 use Rattle.wdf_base.specs.declared.object.Place.TheVariants as place
 use Rattle.wdf_base.specs.declared.object.RequestInfo.{RequestInfo}
-use Rattle.wdf_base.specs.Places.{is_marked, is_owned, is_returning_from, is_sent}
+use Rattle.wdf_base.specs.Places.{is_marked, is_owned, is_returning_to, is_sent}
 use Rattle.wdf_model.specs.declared.enums.Mode.TheVariants as mode
 use Rattle.wdf_model.specs.declared.entries.Request.{Request}
 use Rattle.wdf_model.specs.Plans.{managed_queues, queues_of}
@@ -23,7 +23,7 @@ use Rattle.wdf_model.specs.parts.Queues as queues
 use Rattle.wdf_model.specs.parts.Tree as tree
 use Rattle.wdf_model.specs.parts.Control as control
 use Rattle.wdf_model.specs.parts.Targets.{is_forgotten, is_undone}
-use Rattle.wdf_model.specs.State.{State, returns_from, withdrawn_place}
+use Rattle.wdf_model.specs.State.{State, returns_to, withdrawn_place}
 use Rattle.wdf_model.specs.declared.deed.Deed.{Deed}
 use Rattle.wdf_model.specs.declared.deed.Deed.TheVariants.{MakeRequest, Arrive, AskDeletion, EndLife, Present, Receive, Requeue, Forward, GiveBack, Withdraw, MarkRequest, UnmarkRequest, CancelRequest, TakeCancel, SendRequest, FinishSending, ComeBack, CompleteRequest, PurgeQueue, CloseReturning, CloseDevice}
 use Rattle.wdf_model.specs.rules.Deeds.{close_queue, close_returning, do_deed, do_deeds, finished_at, give_up, queued, withdraw}
@@ -130,7 +130,7 @@ all_close R here off all x =
     subst Sane (sym (entry_map no_request R.all (closed_at here) x blank)) (closes_sane (request_of R x) (here (place_of R x)) (all x))
 
 withdrawn_plain : {A : Type 0} (plan : Plan) (S : State A) (q r : ℕ) → IsPlainPlace (withdrawn_place plan S q r)
-withdrawn_plain plan S q r = by ((requests.info_of S.requests r).received && returns_from plan S q)
+withdrawn_plain plan S q r = by ((requests.info_of S.requests r).received && returns_to plan S q)
   where
     by : (b : Bool) → IsPlainPlace (if b then place.Returning (record { 0 = q }) else place.Closing status.Cancelled)
     by true = tt
@@ -147,7 +147,7 @@ all_withdrawn {A} plan q (r ∷ rs) S all =
 
 all_returning : {A : Type 0} (qs : List ℕ) (S : State A) → AllSane S.requests → AllSane (fold close_returning S qs).requests
 all_returning [] S all = all
-all_returning (q ∷ qs) S all = all_returning qs (close_returning S q) (all_close S.requests (is_returning_from q) refl all)
+all_returning (q ∷ qs) S all = all_returning qs (close_returning S q) (all_close S.requests (is_returning_to q) refl all)
 
 all_closed : {A : Type 0} (qs : List ℕ) (S : State A) → AllSane S.requests → AllSane (fold close_queue S qs).requests
 all_closed [] S all = all

@@ -3,7 +3,7 @@ use Rattle.std.proofs.Common.{◌≡◌, ℕ, Bool, true, false, not, ◌&&◌, 
 use Rattle.std.proofs.lemmas.Bool.{eqb-true}
 use Rattle.wdf_base.specs.Meaning.{Meaning}
 use Rattle.wdf_base.specs.Callbacks.{row_of}
-use Rattle.wdf_base.specs.Places.{is_due, is_owned, is_queued_in, is_returning_from, is_sent, is_sent_to}
+use Rattle.wdf_base.specs.Places.{is_due, is_owned, is_queued_in, is_returning_to, is_sent, is_sent_to}
 use Rattle.wdf_base.specs.declared.call.Callback.{Callback}
 use Rattle.wdf_base.specs.declared.call.Callback.TheVariants as callback
 use Rattle.wdf_base.specs.declared.ids.Handle.{Handle}
@@ -53,10 +53,10 @@ from_queue q o h = by q.place refl h
     by (place.Sent w) e h = absurd (let z : ⊥ = cc in z)
     by place.Done e h = absurd (let z : ⊥ = cc in z)
 
-from_return : (q : Request) (o : ℕ) → is_returning_from o q.place ≡ true → origin_in (moved place.Owned q) ≡ Some o
+from_return : (q : Request) (o : ℕ) → is_returning_to o q.place ≡ true → origin_in (moved place.Owned q) ≡ Some o
 from_return q o h = by q.place refl h
   where
-    by : (x : Place) → q.place ≡ x → is_returning_from o x ≡ true → option_map (λ (i : ObjectId). i.0) (origin_from q.place place.Owned q.info.origin) ≡ Some o
+    by : (x : Place) → q.place ≡ x → is_returning_to o x ≡ true → option_map (λ (i : ObjectId). i.0) (origin_from q.place place.Owned q.info.origin) ≡ Some o
     by (place.Returning w) e h = ap (λ x. option_map (λ (i : ObjectId). i.0) (origin_from x place.Owned q.info.origin)) e ∙ ap Some (eqb-true w.0 o h)
     by place.Owned e h = absurd (let z : ⊥ = cc in z)
     by (place.Queued w) e h = absurd (let z : ⊥ = cc in z)
@@ -71,7 +71,7 @@ module _ {A : Type 0} (plan : Plan) (S : State A) (places : Places S) where
       ap origin_in (entry_put_same no_request S.requests.all r (moved place.Owned (request_of S.requests r)))
       ∙ from_queue (request_of S.requests r) o (front_queued o r places (both_right _ (same_id (front S.queues o) r) (both_left (_ && same_id (front S.queues o) r) _ h)))
 
-  returned : (o r : ℕ) → is_returning_from o (place_of S.requests r) ≡ true → origin_of (requests.move_to S.requests r place.Owned) r ≡ Some o
+  returned : (o r : ℕ) → is_returning_to o (place_of S.requests r) ≡ true → origin_of (requests.move_to S.requests r place.Owned) r ≡ Some o
   returned o r h =
       ap origin_in (entry_put_same no_request S.requests.all r (moved place.Owned (request_of S.requests r)))
       ∙ from_return (request_of S.requests r) o h

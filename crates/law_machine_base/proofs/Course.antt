@@ -10,7 +10,7 @@ use Rattle.wdf_model.specs.Runs.{IsPickedFrom}
 use Rattle.wdf_model.specs.State.{State, opening}
 use Rattle.wdf_model.specs.rules.Steps.{after}
 use Rattle.wdf_model.specs.rules.Ready.{ending_by, ending_of, fault_in, last_fault, ready, ready_in, state_after, unless_fault}
-use Rattle.wdf_model.specs.agents.AnyAgent.{agent_meaning}
+use Rattle.wdf_model.specs.agents.AnyAgent.{agents}
 use Rattle.law_machine_base.specs.Course.{CourseOf, IsWorked, IsWorkedWith, ending_at, events_of, pick, run_by, run_from, run_with, stopped, with_picked}
 use Rattle.wdf_model.proofs.Runs.{picked_goes_on, picked_opens}
 use Rattle.law_machine_base.proofs.Follows.{last_fault_of, state_goes_on}
@@ -101,7 +101,7 @@ module _ {A : Type 0} (plan : Plan) (m : Meaning A) where
       record { run = record { begins = (events, refl); picked = picked; ends = nothing }; ends = ending }
 
 -- the run with the agents of the program
-by_agents : (plan : Plan) (turns : ℕ) → run_with plan agent_meaning turns ≡ run_by plan turns
+by_agents : (plan : Plan) (turns : ℕ) → run_with plan agents turns ≡ run_by plan turns
 unfolding run_with run_by
 by_agents plan turns = refl
 
@@ -109,7 +109,7 @@ by_agents plan turns = refl
 pub worked_of : (plan : Plan) (turns : ℕ) (events : List Event) (e : Ending) → events_of (run_by plan turns) ≡ events → ending_at (run_by plan turns) ≡ e
     → e ≢ ending.Running → IsWorked plan events e
 worked_of plan turns events e same ends over =
-    worked_with plan agent_meaning turns events e (ap events_of (by_agents plan turns) ∙ same) (ap ending_at (by_agents plan turns) ∙ ends) over
+    worked_with plan agents turns events e (ap events_of (by_agents plan turns) ∙ same) (ap ending_at (by_agents plan turns) ∙ ends) over
 
 pub run_by_is_picked : (plan : Plan) (turns : ℕ) → ending_at (run_by plan turns) ≢ ending.Running
     → IsWorked plan (events_of (run_by plan turns)) (ending_at (run_by plan turns))

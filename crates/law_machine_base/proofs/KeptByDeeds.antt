@@ -26,7 +26,7 @@ use Rattle.wdf_model.specs.parts.Requests.{Requests, cancelled, has_arrived, mar
 use Rattle.wdf_model.specs.parts.Requests as requests
 use Rattle.wdf_base.specs.declared.object.Mark.TheVariants as mark
 use Rattle.wdf_base.specs.Lives.{is_live}
-use Rattle.wdf_base.specs.Places.{is_closing, is_done, is_due, is_marked, is_owned, is_queued_in, is_returning_from, is_sent, is_sent_to}
+use Rattle.wdf_base.specs.Places.{is_closing, is_done, is_due, is_marked, is_owned, is_queued_in, is_returning_to, is_sent, is_sent_to}
 use Rattle.wdf_model.specs.parts.Queues.{Queues, waiting_in}
 use Rattle.wdf_model.specs.parts.Queues as queues
 use Rattle.wdf_model.specs.parts.Control.{accepts}
@@ -160,7 +160,7 @@ pub closing_undone : (p : Place) → is_closing p ≡ true → (is_done p ≡ fa
 closing_undone (place.Closing s) h = (refl, refl, refl)
 closing_undone _ h = absurd (let z : ⊥ = cc in z)
 
-returning_undone : (q : ℕ) (p : Place) → is_returning_from q p ≡ true → (is_done p ≡ false) × (is_still p ≡ true) × (is_made_place p ≡ false)
+returning_undone : (q : ℕ) (p : Place) → is_returning_to q p ≡ true → (is_done p ≡ false) × (is_still p ≡ true) × (is_made_place p ≡ false)
 returning_undone q (place.Returning r) h = (refl, refl, refl)
 returning_undone q _ h = absurd (let z : ⊥ = cc in z)
 
@@ -311,11 +311,11 @@ module _ (here : Place → Bool) (it : Inside here) where
     begun = λ x h. k.begun x (sym (arrived_closed R x) ∙ h);
   }
 
-returning_inside : (q : ℕ) → Inside (is_returning_from q)
+returning_inside : (q : ℕ) → Inside (is_returning_to q)
 returning_inside q = record { done = refl; unmade = λ p h. (returning_undone q p h).2 }
 
 in_unmade : (q : ℕ) (p : Place) → is_in q p ≡ true → is_made_place p ≡ false
-in_unmade q p h = elim (or_cases (is_queued_in q p) (is_returning_from q p) h) [
+in_unmade q p h = elim (or_cases (is_queued_in q p) (is_returning_to q p) h) [
   | inl e ↦ queued_unmade q p e
   | inr e ↦ (returning_undone q p e).2
 ]
@@ -324,12 +324,12 @@ in_inside : (q : ℕ) → Inside (is_in q)
 in_inside q = record { done = refl; unmade = in_unmade q }
 
 -- what returns is queued nowhere, before and after
-returning_unqueued : (q p : ℕ) (x : Place) (b : Bool) → is_returning_from p x ≡ b → is_queued_in q x ≡ is_queued_in q (if b then place.Closing status.Cancelled else x)
+returning_unqueued : (q p : ℕ) (x : Place) (b : Bool) → is_returning_to p x ≡ b → is_queued_in q x ≡ is_queued_in q (if b then place.Closing status.Cancelled else x)
 returning_unqueued q p x true e = still_unqueued q x (returning_undone p x e).1
 returning_unqueued q p x false e = refl
 
 returning_closed : {A : Type 0} {F B : ℕ → Bool} (S : State A) (q : ℕ) → KeptIn F B S → KeptIn F B (close_returning S q)
-returning_closed S q k = closes (is_returning_from q) (returning_inside q) k (λ p x. k.queued p x ∙ ap flag (returning_unqueued p q (place_of S.requests x) (is_returning_from q (place_of S.requests x)) refl))
+returning_closed S q k = closes (is_returning_to q) (returning_inside q) k (λ p x. k.queued p x ∙ ap flag (returning_unqueued p q (place_of S.requests x) (is_returning_to q (place_of S.requests x)) refl))
 
 all_returning_closed : {A : Type 0} {F B : ℕ → Bool} (qs : List ℕ) (S : State A) → KeptIn F B S → KeptIn F B (fold close_returning S qs)
 all_returning_closed [] S k = k
@@ -338,11 +338,11 @@ all_returning_closed (q ∷ qs) S k = all_returning_closed qs (close_returning S
 -- nothing is queued in a queue that is closed, and elsewhere what was
 closed_here : (q : ℕ) (x : Place) (b : Bool) → is_in q x ≡ b → is_queued_in q (if b then place.Closing status.Cancelled else x) ≡ false
 closed_here q x true e = refl
-closed_here q x false e = (either_false (is_queued_in q x) (is_returning_from q x) e).0
+closed_here q x false e = (either_false (is_queued_in q x) (is_returning_to q x) e).0
 
 closed_elsewhere : (q p : ℕ) (x : Place) (b : Bool) → p ≢ q → is_in q x ≡ b → is_queued_in p x ≡ is_queued_in p (if b then place.Closing status.Cancelled else x)
 closed_elsewhere q p x false n e = refl
-closed_elsewhere q p x true n e = elim (or_cases (is_queued_in q x) (is_returning_from q x) e) [
+closed_elsewhere q p x true n e = elim (or_cases (is_queued_in q x) (is_returning_to q x) e) [
   | inl h ↦ queued_once q p x h n
   | inr h ↦ still_unqueued p x (returning_undone q x h).1
 ]

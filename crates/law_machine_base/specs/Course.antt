@@ -10,7 +10,7 @@ use Rattle.wdf_base.specs.declared.wait.WaitLine.{WaitLine}
 use Rattle.wdf_model.specs.State.{State, opening}
 use Rattle.wdf_model.specs.rules.Steps.{after}
 use Rattle.wdf_model.specs.rules.Ready.{IsPickedRun, ready_in, fault_in, unless_fault, ending_by, ending_of}
-use Rattle.wdf_model.specs.agents.AnyAgent.{AnyAgent, agent_meaning}
+use Rattle.wdf_model.specs.agents.AnyAgent.{AnyAgent, agents}
 use Rattle.wdf_model.specs.rules.Waits.{if_stuck, wait_lines}
 
 -- a run so far, with agents of any kind
@@ -38,7 +38,7 @@ waits_with m c = if_stuck c.ending (wait_lines c.plan m c.state)
 
 -- its wait list; the empty list where it isn't stuck
 abbrev pub waits_at : CourseOf AnyAgent → List WaitLine
-waits_at c = waits_with agent_meaning c
+waits_at c = waits_with agents c
 
 -- the run with these events and this state, whose last event is fault x or none, and no further
 abbrev pub stopped : {A : Type 0} → Plan → Meaning A → List Event → State A → Option Fault → CourseOf A
@@ -65,7 +65,7 @@ run_with plan m turns = run_from turns plan m plan.picks [] (opening plan m) Non
 
 -- the run of the plan's picks, with at most so many events
 unfoldable pub run_by : Plan → ℕ → CourseOf AnyAgent
-run_by plan turns = run_from turns plan agent_meaning plan.picks [] (opening plan agent_meaning) None
+run_by plan turns = run_from turns plan agents plan.picks [] (opening plan agents) None
 
 -- ---- worked runs
 
@@ -77,4 +77,4 @@ pub record IsWorkedWith {A : Type 0} (plan : Plan) (m : Meaning A) (events : Lis
 -- these events are the run that the plan's picks determine, from its opening to where nothing may follow, and this
 -- is how it ends
 abbrev pub IsWorked : Plan → List Event → Ending → Type 0
-IsWorked plan events e = IsWorkedWith plan agent_meaning events e
+IsWorked plan events e = IsWorkedWith plan agents events e

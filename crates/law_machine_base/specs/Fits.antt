@@ -7,7 +7,7 @@ use Rattle.wdf_base.specs.declared.object.Place.{Place}
 use Rattle.wdf_base.specs.declared.object.Place.TheVariants as place
 use Rattle.wdf_base.specs.Same.{same_kind}
 use Rattle.wdf_base.specs.Lives.{is_live}
-use Rattle.wdf_base.specs.Places.{is_closing, is_due, is_owned, is_queued_in, is_returning_from, is_sent}
+use Rattle.wdf_base.specs.Places.{is_closing, is_due, is_owned, is_queued_in, is_returning_to, is_sent}
 use Rattle.wdf_model.specs.Tables.{same_id}
 use Rattle.wdf_model.specs.parts.Tree.{is_full, kind_of, life_of, references_of, started}
 use Rattle.wdf_model.specs.parts.Locks.{is_free_lock}
@@ -59,7 +59,7 @@ fits plan (EndLife o) S = destroy_ready S o.0
 fits plan (TakeLock l f by_call) S = is_free_lock S.locks l
 -- what is presented is the front; what returns is received from its queue
 fits plan (Present q r) S = same_id (front S.queues q.0) r.0
-fits plan (Receive q r) S = is_returning_from q.0 (place_of S.requests r.0)
+fits plan (Receive q r) S = is_returning_to q.0 (place_of S.requests r.0)
 -- the driver gives back what it owns, and forwards to a queue that accepts
 fits plan (Requeue r q) S = is_given S r.0
 fits plan (Forward r q) S = is_given S r.0 && accepts S.control q.0

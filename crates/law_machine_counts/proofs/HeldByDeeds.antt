@@ -13,7 +13,7 @@ use Rattle.wdf_base.specs.declared.event.Stage.TheVariants as stage
 use Rattle.wdf_base.specs.declared.event.Step.{Step}
 use Rattle.wdf_base.specs.declared.event.Step.TheVariants as step
 use Rattle.wdf_base.specs.declared.value.Status.TheVariants as status
-use Rattle.wdf_base.specs.Places.{is_done, is_marked, is_owned, is_queued_in, is_returning_from, is_sent}
+use Rattle.wdf_base.specs.Places.{is_done, is_marked, is_owned, is_queued_in, is_returning_to, is_sent}
 use Rattle.wdf_model.specs.declared.enums.Mode.TheVariants as mode
 use Rattle.wdf_model.specs.declared.entries.Request.{Request}
 use Rattle.wdf_model.specs.declared.entries.Holding.{Holding}
@@ -54,7 +54,7 @@ queued_unheld forgotten q place.Owned h = absurd (let z : ⊥ = cc in z)
 queued_unheld forgotten q (place.Sent t) h = absurd (let z : ⊥ = cc in z)
 queued_unheld forgotten q _ h = refl
 
-pub returning_unheld : (forgotten : Bool) (q : ℕ) (p : Place) → is_returning_from q p ≡ true → held_at forgotten p ≡ false
+pub returning_unheld : (forgotten : Bool) (q : ℕ) (p : Place) → is_returning_to q p ≡ true → held_at forgotten p ≡ false
 returning_unheld forgotten q place.Owned h = absurd (let z : ⊥ = cc in z)
 returning_unheld forgotten q (place.Sent t) h = absurd (let z : ⊥ = cc in z)
 returning_unheld forgotten q _ h = refl
@@ -109,7 +109,7 @@ closed_holds {R = R} {T = T} here done unheld h counts = holds_alike h
 
 all_returning_closed : {A : Type 0} (plan : Plan) (qs : List ℕ) (S : State A) → HoldsIn plan S → HoldsIn plan (fold close_returning S qs)
 all_returning_closed plan [] S h = h
-all_returning_closed plan (q ∷ qs) S h = all_returning_closed plan qs (close_returning S q) (closed_holds (is_returning_from q) refl (λ away p e. returning_unheld away q p e) h (λ x. refl))
+all_returning_closed plan (q ∷ qs) S h = all_returning_closed plan qs (close_returning S q) (closed_holds (is_returning_to q) refl (λ away p e. returning_unheld away q p e) h (λ x. refl))
 
 all_queues_closed : {A : Type 0} (plan : Plan) (qs : List ℕ) (S : State A) → HoldsIn plan S → HoldsIn plan (fold close_queue S qs)
 all_queues_closed plan [] S h = h

@@ -5,7 +5,7 @@ use Rattle.wdf_base.specs.declared.value.Status.{Status}
 use Rattle.wdf_base.specs.declared.object.Place.{Place}
 use Rattle.wdf_base.specs.declared.object.Place.TheVariants as place
 use Rattle.wdf_base.specs.declared.object.RequestInfo.{RequestInfo}
-use Rattle.wdf_base.specs.Places.{is_owned, is_queued_in, is_returning_from, is_sent, is_sent_to}
+use Rattle.wdf_base.specs.Places.{is_owned, is_queued_in, is_returning_to, is_sent, is_sent_to}
 use Rattle.wdf_model.specs.declared.entries.Request.{Request}
 use Rattle.wdf_model.specs.declared.entries.Sending.{Sending}
 use Rattle.wdf_model.specs.Tables.{flag, same_id}
@@ -108,7 +108,7 @@ presented {A} {plan} S q r k h f =
     parts.0 (holder_here S.requests S.targets r (moved place.Owned) ∙ parts.1)
     (λ p. one_more S.queues q p)
 
-pub received : {A : Type 0} {plan : Plan} (S : State A) (q r : ℕ) → HoldsIn plan S → is_returning_from q (place_of S.requests r) ≡ true
+pub received : {A : Type 0} {plan : Plan} (S : State A) (q r : ℕ) → HoldsIn plan S → is_returning_to q (place_of S.requests r) ≡ true
     → Holds plan (requests.move_to S.requests r place.Owned) (queues.hold S.queues q) S.targets (hold_power plan S.power r q)
 received {A} {plan} S q r h f =
     let parts = from_return (is_forgotten S.targets r) q (request_of S.requests r) (place_of S.requests r) refl f in

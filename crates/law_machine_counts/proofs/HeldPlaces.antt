@@ -5,7 +5,7 @@ use Rattle.wdf_base.specs.declared.value.Status.{Status}
 use Rattle.wdf_base.specs.declared.value.Status.TheVariants as status
 use Rattle.wdf_base.specs.declared.object.Place.{Place}
 use Rattle.wdf_base.specs.declared.object.Place.TheVariants as place
-use Rattle.wdf_base.specs.Places.{is_marked, is_owned, is_queued_in, is_returning_from, is_sent}
+use Rattle.wdf_base.specs.Places.{is_marked, is_owned, is_queued_in, is_returning_to, is_sent}
 use Rattle.wdf_model.specs.declared.entries.Request.{Request}
 use Rattle.wdf_model.specs.Tables.{put}
 use Rattle.wdf_model.specs.parts.Requests.{Requests, marked, moved, request_of, unmarked, with_request}
@@ -48,7 +48,7 @@ pub from_queue : (forgotten : Bool) (q : ℕ) (r : Request) (p : Place) → r.pl
 from_queue forgotten q r (place.Queued o) e h = (rw e refl, rw e (ap Some (eqb-true o.0 q h)))
 from_queue forgotten q r _ e h = absurd (let z : ⊥ = cc in z)
 
-pub from_return : (forgotten : Bool) (q : ℕ) (r : Request) (p : Place) → r.place ≡ p → is_returning_from q p ≡ true → (held_by forgotten r ≡ None) × (held_by forgotten (moved place.Owned r) ≡ Some q)
+pub from_return : (forgotten : Bool) (q : ℕ) (r : Request) (p : Place) → r.place ≡ p → is_returning_to q p ≡ true → (held_by forgotten r ≡ None) × (held_by forgotten (moved place.Owned r) ≡ Some q)
 from_return forgotten q r (place.Returning o) e h = (rw e refl, rw e (ap Some (eqb-true o.0 q h)))
 from_return forgotten q r _ e h = absurd (let z : ⊥ = cc in z)
 

@@ -3,7 +3,7 @@ use Rattle.std.proofs.Common.{◌≡◌, ℕ, Bool, true, false, refl}
 use Rattle.wdf_base.specs.declared.object.Place.{Place}
 use Rattle.wdf_base.specs.declared.object.Place.TheVariants as place
 use Rattle.wdf_base.specs.declared.value.Status.{Status}
-use Rattle.wdf_base.specs.Places.{is_done, is_queued_in, is_returning_from, is_sent}
+use Rattle.wdf_base.specs.Places.{is_done, is_queued_in, is_returning_to, is_sent}
 use Rattle.wdf_model.specs.State.{held_at}
 use Rattle.wdf_model.specs.rules.Deeds.{finished_at}
 
@@ -15,7 +15,7 @@ pub queued_undone : (q : ℕ) (p : Place) → is_queued_in q p ≡ true → is_d
 queued_undone q place.Done h = absurd (let z : ⊥ = cc in z)
 queued_undone q _ h = refl
 
-pub returning_undone : (q : ℕ) (p : Place) → is_returning_from q p ≡ true → is_done p ≡ false
+pub returning_undone : (q : ℕ) (p : Place) → is_returning_to q p ≡ true → is_done p ≡ false
 returning_undone q place.Done h = absurd (let z : ⊥ = cc in z)
 returning_undone q _ h = refl
 

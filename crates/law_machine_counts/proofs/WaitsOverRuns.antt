@@ -13,7 +13,7 @@ use Rattle.wdf_base.specs.declared.call.Call.{Call}
 use Rattle.wdf_base.specs.declared.call.Callback.TheVariants as callback
 use Rattle.wdf_base.specs.declared.call.CallKind.{CallKind}
 use Rattle.wdf_base.specs.declared.call.CallKind.TheVariants as call
-use Rattle.wdf_base.specs.Places.{is_queued_in, is_returning_from}
+use Rattle.wdf_base.specs.Places.{is_queued_in, is_returning_to}
 use Rattle.wdf_model.specs.declared.enums.Mode.TheVariants as mode
 use Rattle.wdf_model.specs.declared.entries.Request.{Request}
 use Rattle.wdf_model.specs.Tables.{entry, flag, put}
@@ -21,7 +21,7 @@ use Rattle.wdf_model.specs.parts.Requests.{cancelled, info_of, moved, no_request
 use Rattle.wdf_model.specs.parts.Queues.{held_count, waiting_in}
 use Rattle.wdf_model.specs.parts.Control.{Control, control_of, is_closed}
 use Rattle.wdf_model.specs.parts.Control as control
-use Rattle.wdf_model.specs.State.{State, is_powered, object_in, returns_from, withdrawn_place}
+use Rattle.wdf_model.specs.State.{State, is_powered, object_in, returns_to, withdrawn_place}
 use Rattle.wdf_model.specs.Plans.{declares, device_of_queue}
 use Rattle.wdf_model.specs.Ids.{object_id}
 use Rattle.wdf_model.specs.declared.deed.Deed.TheVariants.{PurgeQueue}
@@ -53,34 +53,34 @@ any_put p blank [] (suc id) new none old = rw none (any_put p blank [] id new no
 any_put p blank (x ∷ xs) zero new none old = rw old (or_turned (p new) (list_any p xs))
 any_put p blank (x ∷ xs) (suc id) new none old = ap (λ b. p x || b) (any_put p blank xs id new none old) ∙ or_together (p x) (list_any p xs) (p new)
 
-returned_by : (q : ℕ) (a b : Bool) → is_returning_from q (if a && b then place.Returning (record { 0 = q }) else place.Closing status.Cancelled) ≡ (a && b)
+returned_by : (q : ℕ) (a b : Bool) → is_returning_to q (if a && b then place.Returning (record { 0 = q }) else place.Closing status.Cancelled) ≡ (a && b)
 returned_by q true true = equal q q refl
 returned_by q true false = refl
 returned_by q false b = refl
 
-queued_stays : (q p : ℕ) (x : Place) → is_queued_in q x ≡ true → is_returning_from p x ≡ false
+queued_stays : (q p : ℕ) (x : Place) → is_queued_in q x ≡ true → is_returning_to p x ≡ false
 queued_stays q p (place.Returning r) h = absurd (let z : ⊥ = cc in z)
 queued_stays q p _ h = refl
 
 abbrev returning : ℕ → Request → Bool
-returning q r = is_returning_from q r.place
+returning q r = is_returning_to q r.place
 
 abbrev received : {A : Type 0} → State A → ℕ → Bool
 received S r = (info_of S.requests r).received
 
 -- the entries after one request is withdrawn
 one_withdrawn : {A : Type 0} (plan : Plan) (q : ℕ) (S : State A) (r : ℕ) → is_queued_in q (place_of S.requests r) ≡ true
-    → list_any (returning q) (withdraw plan q S r).requests.all ≡ (list_any (returning q) S.requests.all || (received S r && returns_from plan S q))
+    → list_any (returning q) (withdraw plan q S r).requests.all ≡ (list_any (returning q) S.requests.all || (received S r && returns_to plan S q))
 one_withdrawn plan q S r queued =
-    let was : is_returning_from q (place_of S.requests r) ≡ false = queued_stays q q (place_of S.requests r) queued in
+    let was : is_returning_to q (place_of S.requests r) ≡ false = queued_stays q q (place_of S.requests r) queued in
     let old : Request = cancelled (request_of S.requests r) in
     let here : entry no_request (put no_request S.requests.all r old) r ≡ old = entry_put_same no_request S.requests.all r old in
     let first : list_any (returning q) (put no_request S.requests.all r old) ≡ list_any (returning q) S.requests.all =
     any_put (returning q) no_request S.requests.all r old refl was ∙ ap (λ b. list_any (returning q) S.requests.all || b) was ∙ or-false (list_any (returning q) S.requests.all) in
     let p : Place = withdrawn_place plan S q r in
     any_put (returning q) no_request (put no_request S.requests.all r old) r (moved p (entry no_request (put no_request S.requests.all r old) r)) refl (ap (returning q) here ∙ was)
-    ∙ ap (λ b. b || is_returning_from q p) first
-    ∙ ap (λ b. list_any (returning q) S.requests.all || b) (returned_by q (received S r) (returns_from plan S q))
+    ∙ ap (λ b. b || is_returning_to q p) first
+    ∙ ap (λ b. list_any (returning q) S.requests.all || b) (returned_by q (received S r) (returns_to plan S q))
 
 others_stay : {A : Type 0} (plan : Plan) (q : ℕ) (S : State A) (r x : ℕ) → x ≢ r → request_of (withdraw plan q S r).requests x ≡ request_of S.requests x
 others_stay plan q S r x n =
@@ -116,16 +116,16 @@ none_more false true = refl
 none_more false false = refl
 
 all_withdrawn : {A : Type 0} (plan : Plan) (q : ℕ) (rs : List ℕ) (S : State A) → ((x : ℕ) → times x rs ≤ 1) → ((x : ℕ) → 1 ≤ times x rs → is_queued_in q (place_of S.requests x) ≡ true)
-    → list_any (returning q) (fold (withdraw plan q) S rs).requests.all ≡ (list_any (returning q) S.requests.all || (returns_from plan S q && list_any (received S) rs))
-all_withdrawn plan q [] S once queued = sym (none_more (list_any (returning q) S.requests.all) (returns_from plan S q))
+    → list_any (returning q) (fold (withdraw plan q) S rs).requests.all ≡ (list_any (returning q) S.requests.all || (returns_to plan S q && list_any (received S) rs))
+all_withdrawn plan q [] S once queued = sym (none_more (list_any (returning q) S.requests.all) (returns_to plan S q))
 all_withdrawn plan q (r ∷ rs) S once queued =
     let there : is_queued_in q (place_of S.requests r) ≡ true = queued r (let e = at_head r r rs in let one : flag (r == r) ≡ 1 = ap flag (equal r r refl) in omega arith) in
     all_withdrawn plan q rs (withdraw plan q S r) (λ x. let o = once x in let e = at_head x r rs in omega arith)
     (λ x more. ap (λ (y : Request). is_queued_in q y.place) (others_stay plan q S r x (differ r x rs (once r) more)) ∙ queued x (let e = at_head x r rs in omega arith))
-    ∙ ap (λ b. b || (returns_from plan S q && list_any (received (withdraw plan q S r)) rs)) (one_withdrawn plan q S r there)
-    ∙ ap (λ b. (list_any (returning q) S.requests.all || (received S r && returns_from plan S q)) || (returns_from plan S q && b))
+    ∙ ap (λ b. b || (returns_to plan S q && list_any (received (withdraw plan q S r)) rs)) (one_withdrawn plan q S r there)
+    ∙ ap (λ b. (list_any (returning q) S.requests.all || (received S r && returns_to plan S q)) || (returns_to plan S q && b))
     (same_any (received (withdraw plan q S r)) (received S) rs (λ x more. ap (λ (y : Request). y.info.received) (others_stay plan q S r x (differ r x rs (once r) more))))
-    ∙ gathered (list_any (returning q) S.requests.all) (received S r) (returns_from plan S q) (list_any (received S) rs)
+    ∙ gathered (list_any (returning q) S.requests.all) (received S r) (returns_to plan S q) (list_any (received S) rs)
 
 held_still : {A : Type 0} (plan : Plan) (q p : ℕ) (rs : List ℕ) (S : State A) → held_count (fold (withdraw plan q) S rs).queues p ≡ held_count S.queues p
 held_still plan q p [] S = refl
@@ -136,7 +136,7 @@ closed_by : (M : Control) (q d : ℕ) (b : Bool) → is_closed M (control_of M q
 closed_by M q d true e = rw e refl
 closed_by M q d false e = rw e refl
 
-returns_still : {A : Type 0} (plan : Plan) (S : State A) (q : ℕ) → returns_from plan (record S { control = control.set_mode S.control q mode.Purged }) q ≡ returns_from plan S q
+returns_still : {A : Type 0} (plan : Plan) (S : State A) (q : ℕ) → returns_to plan (record S { control = control.set_mode S.control q mode.Purged }) q ≡ returns_to plan S q
 returns_still plan S q =
     ap (λ b. declares plan callback.EvtIoCanceledOnQueue q && not b && is_powered plan S q)
     (closed_by S.control q (device_of_queue plan q) (is_closed S.control (control_of S.control q).device.0) refl)
@@ -151,7 +151,7 @@ purge_told : {A : Type 0} {F B : ℕ → Bool} (plan : Plan) (S : State A) (q : 
 purge_told {A} plan S q k =
     let T : State A = record S { control = control.set_mode S.control q mode.Purged } in
     let rs : List ℕ = waiting_in S.queues q in
-    let back : list_any (returning q) (fold (withdraw plan q) T rs).requests.all ≡ (list_any (returning q) S.requests.all || (returns_from plan T q && list_any (received T) rs)) =
+    let back : list_any (returning q) (fold (withdraw plan q) T rs).requests.all ≡ (list_any (returning q) S.requests.all || (returns_to plan T q && list_any (received T) rs)) =
     all_withdrawn plan q rs T
     (λ x. let is = k.queued q x in let small = flag_small (is_queued_in q (place_of S.requests x)) in omega arith)
     (λ x more. flag_yes (is_queued_in q (place_of S.requests x)) (times x rs - 1) (let is = k.queued q x in omega arith)) in

@@ -5,7 +5,7 @@ use Rattle.wdf_base.specs.declared.object.Mark.TheVariants as marks
 use Rattle.wdf_base.specs.declared.object.Place.{Place}
 use Rattle.wdf_base.specs.declared.object.Place.TheVariants as place
 use Rattle.wdf_base.specs.declared.value.Status.TheVariants as status
-use Rattle.wdf_base.specs.Places.{is_marked, is_returning_from}
+use Rattle.wdf_base.specs.Places.{is_marked, is_returning_to}
 use Rattle.wdf_model.specs.declared.enums.Mode.TheVariants as mode
 use Rattle.wdf_model.specs.declared.entries.Request.{Request}
 use Rattle.wdf_model.specs.Plans.{managed_queues, queues_of}
@@ -113,7 +113,7 @@ all_withdrawn plan q (r ∷ rs) S = all_then S.requests (withdraw plan q S r).re
 
 all_returning : {A : Type 0} (qs : List ℕ) (S : State A) → AllKept S.requests (fold close_returning S qs).requests
 all_returning [] S = λ x. itself_kept _
-all_returning (q ∷ qs) S = all_then S.requests (close_returning S q).requests (fold close_returning (close_returning S q) qs).requests (all_close S.requests (is_returning_from q) refl) (all_returning qs (close_returning S q))
+all_returning (q ∷ qs) S = all_then S.requests (close_returning S q).requests (fold close_returning (close_returning S q) qs).requests (all_close S.requests (is_returning_to q) refl) (all_returning qs (close_returning S q))
 
 all_closed : {A : Type 0} (qs : List ℕ) (S : State A) → AllKept S.requests (fold close_queue S qs).requests
 all_closed [] S = λ x. itself_kept _

@@ -28,7 +28,7 @@ use Rattle.wdf_model.specs.parts.Queues.{front, waiting_in}
 use Rattle.wdf_model.specs.parts.Control as control
 use Rattle.wdf_model.specs.parts.Control.{is_closed}
 use Rattle.wdf_model.specs.parts.Targets.{is_forgotten, is_undone, routine_due}
-use Rattle.wdf_model.specs.State.{State, is_powered, opening, returns_from, withdrawn_place}
+use Rattle.wdf_model.specs.State.{State, is_powered, opening, returns_to, withdrawn_place}
 use Rattle.wdf_model.specs.declared.deed.Deed.{Deed}
 use Rattle.wdf_model.specs.declared.deed.Deed.TheVariants.{MakeRequest, Arrive, AskDeletion, EndLife, Present, Receive, Requeue, Forward, GiveBack, Withdraw, MarkRequest, UnmarkRequest, CancelRequest, TakeCancel, SendRequest, FinishSending, ComeBack, CompleteRequest, PurgeQueue, CloseReturning, CloseDevice}
 use Rattle.wdf_model.specs.rules.Deeds.{arrive_at, cancel_in, close_queue, close_returning, do_deed, finished_at, give_up, give_up_if, queued, withdraw}
@@ -42,7 +42,7 @@ use Rattle.law_machine_counts.proofs.HeldMoves.{Placed}
 use Rattle.law_machine_lives.proofs.Stays.{asks_all, given, given_if}
 use Rattle.wdf_base.specs.Meaning.{Meaning}
 use Rattle.wdf_base.specs.Lives.{is_live}
-use Rattle.wdf_base.specs.Places.{is_marked, is_owned, is_queued_in, is_returning_from, is_sent}
+use Rattle.wdf_base.specs.Places.{is_marked, is_owned, is_queued_in, is_returning_to, is_sent}
 use Rattle.wdf_model.specs.rules.Ready.{ready, state_after}
 use Rattle.wdf_model.proofs.Runs.{run_opens}
 use Rattle.law_machine_base.proofs.LawsOverRuns.{history_now}
@@ -90,7 +90,7 @@ from_queued q (place.Closing s) h = absurd (let z : ⊥ = cc in z)
 from_queued q place.Done h = absurd (let z : ⊥ = cc in z)
 from_queued q _ h = refl
 
-from_returning : (q : ℕ) (p : Place) → is_returning_from q p ≡ true → may_move p place.Owned ≡ true
+from_returning : (q : ℕ) (p : Place) → is_returning_to q p ≡ true → may_move p place.Owned ≡ true
 from_returning q (place.Closing s) h = absurd (let z : ⊥ = cc in z)
 from_returning q place.Done h = absurd (let z : ⊥ = cc in z)
 from_returning q _ h = refl
@@ -146,7 +146,7 @@ opening_placed plan m = placed (opening plan m) (history_now plan m [] (run_open
 -- ---- queues that suit requests
 
 module _ (plan : Plan) (Suits : ℕ → ℕ → RequestForm → Type 0) where
-  -- a queue from which a request returns has EvtIoCanceledOnQueue
+  -- a queue to which a request returns has EvtIoCanceledOnQueue
   abbrev pub PlaceFits : Place → ℕ → RequestForm → Type 0
   PlaceFits (place.Queued q) d f = Suits q.0 d f
   PlaceFits (place.Returning q) d f = Suits q.0 d f × (declares plan callback.EvtIoCanceledOnQueue q.0 ≡ true)
@@ -237,15 +237,15 @@ module _ (plan : Plan) (Suits : ℕ → ℕ → RequestForm → Type 0) where
   queue_suits q (place.Queued x) d f h k = subst (λ y. Suits y d f) (eqb-true x.0 q h) k
   queue_suits q _ d f h k = absurd (let z : ⊥ = cc in z)
 
-  returning_by : (q : ℕ) (p : Place) (d : ℕ) (f : RequestForm) → is_returning_from q p ≡ true → PlaceFits p d f → Suits q d f × (declares plan callback.EvtIoCanceledOnQueue q ≡ true)
+  returning_by : (q : ℕ) (p : Place) (d : ℕ) (f : RequestForm) → is_returning_to q p ≡ true → PlaceFits p d f → Suits q d f × (declares plan callback.EvtIoCanceledOnQueue q ≡ true)
   returning_by q (place.Returning x) d f h k = subst (λ y. Suits y d f × (declares plan callback.EvtIoCanceledOnQueue y ≡ true)) (eqb-true x.0 q h) k
   returning_by q _ d f h k = absurd (let z : ⊥ = cc in z)
 
-  -- a queue suits what waits in it, and what returns from it
+  -- a queue suits what waits in it, and what returns to it
   pub queued_suits : (R : Requests) (q r : ℕ) → AllSuited R → is_queued_in q (place_of R r) ≡ true → SuitsIn R q r
   queued_suits R q r k h = queue_suits q (place_of R r) (info_of R r).device.0 (info_of R r).form h (k r).at
 
-  pub returning_suits : (R : Requests) (q r : ℕ) → AllSuited R → is_returning_from q (place_of R r) ≡ true → SuitsIn R q r × (declares plan callback.EvtIoCanceledOnQueue q ≡ true)
+  pub returning_suits : (R : Requests) (q r : ℕ) → AllSuited R → is_returning_to q (place_of R r) ≡ true → SuitsIn R q r × (declares plan callback.EvtIoCanceledOnQueue q ≡ true)
   returning_suits R q r k h = returning_by q (place_of R r) (info_of R r).device.0 (info_of R r).form h (k r).at
 
   pub waiting_suits : {A : Type 0} (S : State A) (q r : ℕ) → Placed S → AllSuited S.requests → 1 ≤ count_by (λ x. x == r) (waiting_in S.queues q) → SuitsIn S.requests q r
@@ -271,12 +271,12 @@ module _ (plan : Plan) (Suits : ℕ → ℕ → RequestForm → Type 0) where
 
   cancelled_in : {A : Type 0} (U : State A) (q r : ℕ) → SuitsIn U.requests q r → AllSuited U.requests → AllSuited (cancel_in plan U q r).requests
   cancelled_in U q r h k =
-      let b : Bool = (info_of U.requests r).received && returns_from plan U q in
+      let b : Bool = (info_of U.requests r).received && returns_to plan U q in
       let R : Requests = requests.cancel U.requests r in
       moves_one R r (withdrawn_place plan U q r)
       (withdrawn_by b q (info_of R r).device.0 (info_of R r).form (cancelled_suits U.requests q r r h)
       (λ yes. both_left (declares plan callback.EvtIoCanceledOnQueue q) (not (is_closed U.control (device_of_queue plan q)))
-      (both_left (declares plan callback.EvtIoCanceledOnQueue q && not (is_closed U.control (device_of_queue plan q))) (is_powered plan U q) (both_right (info_of U.requests r).received (returns_from plan U q) yes))))
+      (both_left (declares plan callback.EvtIoCanceledOnQueue q && not (is_closed U.control (device_of_queue plan q))) (is_powered plan U q) (both_right (info_of U.requests r).received (returns_to plan U q) yes))))
       (withdrawn_moves b q (place_of R r)) (cancels U.requests r k)
 
   all_withdrawn : {A : Type 0} (q : ℕ) (rs : List ℕ) (S : State A) → ((r : ℕ) → 1 ≤ count_by (λ x. x == r) rs → SuitsIn S.requests q r) → AllSuited S.requests → AllSuited (fold (withdraw plan q) S rs).requests
@@ -289,7 +289,7 @@ module _ (plan : Plan) (Suits : ℕ → ℕ → RequestForm → Type 0) where
 
   all_returning : {A : Type 0} (qs : List ℕ) (S : State A) → AllSuited S.requests → AllSuited (fold close_returning S qs).requests
   all_returning [] S k = k
-  all_returning (q ∷ qs) S k = all_returning qs (close_returning S q) (all_close S.requests (is_returning_from q) refl k)
+  all_returning (q ∷ qs) S k = all_returning qs (close_returning S q) (all_close S.requests (is_returning_to q) refl k)
 
   all_closed : {A : Type 0} (qs : List ℕ) (S : State A) → AllSuited S.requests → AllSuited (fold close_queue S qs).requests
   all_closed [] S k = k

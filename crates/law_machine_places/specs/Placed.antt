@@ -1,7 +1,6 @@
 -- Which events that may come have a place among the candidates. (own)
 use Rattle.std.specs.Prelude.{ℕ, Bool, true, false, ◌==◌, ◌&&◌, ◌≡◌, nat_lt, List, length, Option, Some, None, is_some, option_map, unwrap_or, slice_get}
 use Rattle.wdf_base.specs.Callbacks.{row_of, dpc_function}
-use Rattle.wdf_base.specs.Events.{event_cpu}
 use Rattle.wdf_base.specs.Same.{same_callback}
 use Rattle.wdf_base.specs.declared.call.Callback.{Callback}
 use Rattle.wdf_base.specs.declared.declared.InterruptInfo.{InterruptInfo}
@@ -9,7 +8,6 @@ use Rattle.wdf_base.specs.declared.event.Event.{Event}
 use Rattle.wdf_base.specs.declared.event.Event.TheVariants as event
 use Rattle.wdf_base.specs.declared.event.Step.{Step}
 use Rattle.wdf_base.specs.declared.event.Step.TheVariants as step
-use Rattle.wdf_base.specs.declared.ids.Cpu.{Cpu}
 use Rattle.wdf_base.specs.declared.ids.Handle.{Handle}
 use Rattle.wdf_base.specs.declared.plan.Plan.{Plan}
 use Rattle.wdf_base.specs.declared.rank.Rank.{Rank}
@@ -80,19 +78,23 @@ has_start_if_any plan S c o (Some r) = has_start_for plan S o r.id.0 (row_of c).
 
 -- ---- events
 
--- the processor of an event is there
-abbrev pub has_cpu : Plan → Option Cpu → Bool
-has_cpu plan None = false
-has_cpu plan (Some cpu) = is_cpu plan cpu
-
--- an event that may come has a place among the candidates, a row for each kind of event; in the last row a frame's own
--- event, or one that parks a frame or brings it back
+-- an event that may come has a place among the candidates, a row for each kind of event
 abbrev pub has_place : {A : Type 0} → Plan → State A → Event → Bool
 has_place plan S (event.Start cpu c o r) = has_start_if_any plan S c o.id.0 r
+has_place plan S (event.Local cpu line) = is_cpu plan cpu
+has_place plan S (event.Log cpu v) = is_cpu plan cpu
+has_place plan S (event.Spend cpu n) = is_cpu plan cpu
+has_place plan S (event.Register cpu a k v) = is_cpu plan cpu
+has_place plan S (event.Did cpu c v) = is_cpu plan cpu
+has_place plan S (event.Waiting cpu c) = is_cpu plan cpu
+has_place plan S (event.Woke cpu c v) = is_cpu plan cpu
+has_place plan S (event.Park cpu f) = is_cpu plan cpu
+has_place plan S (event.Unpark cpu f) = is_cpu plan cpu
+has_place plan S (event.End cpu c o v) = is_cpu plan cpu
+has_place plan S (event.Fault cpu x line) = is_cpu plan cpu
 has_place plan S (event.Stage d s i) = is_declared_id plan d.id.0
 has_place plan S (event.Complete r s) = nat_lt r.id.0 (length S.requests.all)
 has_place plan S (event.Cleanup o) = nat_lt o.id.0 (next_id S.tree)
 has_place plan S (event.Destroy o) = nat_lt o.id.0 (next_id S.tree)
 has_place plan S (event.Posted agent p answer) = nat_lt agent (length S.agents)
 has_place plan S (event.Tick time) = false
-has_place plan S e = has_cpu plan (event_cpu e)

@@ -23,7 +23,7 @@ use Rattle.wdf_base.specs.Callbacks.{row_of}
 use Rattle.wdf_base.specs.Resolved.{class_fits, period_fits}
 use Rattle.wdf_base.specs.Same.{same_option, same_step}
 use Rattle.wdf_base.specs.Lives.{is_asked, is_cleaned}
-use Rattle.wdf_base.specs.Places.{is_done, is_queued_in, is_returning_from, is_sent_to}
+use Rattle.wdf_base.specs.Places.{is_done, is_queued_in, is_returning_to, is_sent_to}
 use Rattle.wdf_model.specs.declared.entries.Timed.{Timed}
 use Rattle.wdf_model.specs.Tables.{first_of_list, flag, same_id}
 use Rattle.wdf_model.specs.Plans.{callback_irql, class_period, period_of}
@@ -152,7 +152,7 @@ module _ {A : Type 0} {plan : Plan} {S : State A} (k : Fine plan S) where
       let held : is_with_driver S r ≡ true = search (both_left, both_right) in
       (held_request r held, tt)
   effect_for_doable rank.CanceledOnQueue c o r h =
-      let there = k.room.names.places r o (second (is_queued_in o (place_of S.requests r)) (is_returning_from o (place_of S.requests r)) h) in
+      let there = k.room.names.places r o (second (is_queued_in o (place_of S.requests r)) (is_returning_to o (place_of S.requests r)) h) in
       (may_hold o r there (request_here k r (returning_undone o (place_of S.requests r) h)), tt)
   effect_for_doable rank.Stop c o r h =
       let held : is_with_driver S r ≡ true = search (both_left, both_right) in

@@ -12,7 +12,7 @@ use Rattle.wdf_base.specs.declared.object.Place.TheVariants as place
 use Rattle.wdf_base.specs.declared.object.RequestInfo.{RequestInfo}
 use Rattle.wdf_base.specs.Same.{same_lock}
 use Rattle.wdf_base.specs.Lives.{is_asked, is_cleaned, is_live}
-use Rattle.wdf_base.specs.Places.{is_returning_from}
+use Rattle.wdf_base.specs.Places.{is_returning_to}
 use Rattle.wdf_model.specs.declared.enums.Mode.TheVariants as mode
 use Rattle.wdf_model.specs.declared.entries.Held.{Held}
 use Rattle.wdf_model.specs.declared.entries.HeldLevel.{HeldLevel}
@@ -221,7 +221,7 @@ all_returning_closed : {A : Type 0} (qs : List ℕ) (S : State A) → Grows noth
 all_returning_closed [] S = no_more nothing (counts_of S)
 all_returning_closed (q ∷ qs) S =
     grows_on (counts_of S) (counts_of (deeds.close_returning S q)) (counts_of (fold deeds.close_returning (deeds.close_returning S q) qs))
-    (requests_change nothing (counts_of S) (length (close_returning S.requests q).all) (length-map S.requests.all (closed_at (is_returning_from q))))
+    (requests_change nothing (counts_of S) (length (close_returning S.requests q).all) (length-map S.requests.all (closed_at (is_returning_to q))))
     (all_returning_closed qs (deeds.close_returning S q))
 
 all_closed : {A : Type 0} (qs : List ℕ) (S : State A) → Grows nothing (counts_of S) (counts_of (fold close_queue S qs))

@@ -19,7 +19,7 @@ use Rattle.wdf_model.specs.parts.Control.{is_closed}
 use Rattle.wdf_model.specs.parts.Control as control
 use Rattle.wdf_model.specs.parts.Power.{Power}
 use Rattle.wdf_model.specs.parts.Targets.{is_forgotten}
-use Rattle.wdf_model.specs.State.{State, is_powered, is_with_driver, returns_from, withdrawn_place}
+use Rattle.wdf_model.specs.State.{State, is_powered, is_with_driver, returns_to, withdrawn_place}
 use Rattle.wdf_model.specs.declared.deed.Deed.{Deed}
 use Rattle.wdf_model.specs.declared.deed.Deed.TheVariants.{MakeRequest, Arrive, AskDeletion, EndLife, PushFrame, GoOn, Raise, Lower, PopFrame, ParkFrame, UnparkFrame, Present, Receive, Requeue, Forward, GiveBack, Withdraw, MarkRequest, UnmarkRequest, CancelRequest, TakeCancel, SendRequest, FinishSending, ComeBack, CompleteRequest, PurgeQueue, CloseReturning, CloseDevice, AskDevice, TakeStep, EndStep}
 use Rattle.wdf_model.specs.rules.Deeds.{arrive_at, ask_objects, close_queue, close_returning, do_deed, do_deeds, finished_at, give_up, give_up_if, withdraw}
@@ -89,11 +89,11 @@ withdrawn_by plan S q false h = closing_named (declared_end plan) status.Cancell
 -- a request returns only to a queue that declares EvtIoCanceledOnQueue
 withdrawn_named : {A : Type 0} (plan : Plan) (S : State A) (q r : ℕ) → PlaceNamed (declared_end plan) (withdrawn_place plan S q r)
 withdrawn_named plan S q r =
-    withdrawn_by plan S q ((info_of S.requests r).received && returns_from plan S q)
+    withdrawn_by plan S q ((info_of S.requests r).received && returns_to plan S q)
     (λ e. declares_below plan callback.EvtIoCanceledOnQueue q
     (both_left (declares plan callback.EvtIoCanceledOnQueue q) (not (is_closed S.control (device_of_queue plan q)))
     (both_left (declares plan callback.EvtIoCanceledOnQueue q && not (is_closed S.control (device_of_queue plan q))) (is_powered plan S q)
-    (both_right (info_of S.requests r).received (returns_from plan S q) e))))
+    (both_right (info_of S.requests r).received (returns_to plan S q) e))))
 
 withdraw_named : {A : Type 0} (plan : Plan) (q : ℕ) (S : State A) (r : ℕ) → Named plan S → Named plan (withdraw plan q S r)
 withdraw_named plan q S r k = record {

@@ -8,7 +8,7 @@ use Rattle.wdf_base.specs.declared.object.Place.{Place}
 use Rattle.wdf_base.specs.declared.object.Place.TheVariants as place
 use Rattle.wdf_base.specs.declared.object.Mark.TheVariants as mark
 use Rattle.wdf_base.specs.declared.object.RequestInfo.{RequestInfo}
-use Rattle.wdf_base.specs.Places.{is_marked, is_returning_from}
+use Rattle.wdf_base.specs.Places.{is_marked, is_returning_to}
 use Rattle.wdf_model.specs.declared.entries.Request.{Request}
 use Rattle.wdf_model.specs.parts.Requests.{Requests, cancelled, closed_at, forgotten, is_in, is_over, marked, moved, no_request, origin_from, request_of, unmarked, with_mark, with_request}
 use Rattle.wdf_model.specs.parts.Requests as requests
@@ -107,9 +107,9 @@ cancel_named n R r k = with_named n R r cancelled (λ x named. record { where_it
 pub take_named : (n : ℕ) (R : Requests) (r : ℕ) → AllNamed n R → AllNamed n (requests.take_cancel R r)
 take_named n R r k = with_named n R r (with_mark mark.Taken) (λ x named. record { where_it_is = named.where_it_is; where_from = named.where_from }) k
 
--- what returns from a queue, or is in it, is closed
+-- what returns to a queue, or is in it, is closed
 pub returning_closed : (n : ℕ) (R : Requests) (q : ℕ) → AllNamed n R → AllNamed n (requests.close_returning R q)
-returning_closed n R q k x = subst (RequestNamed n) (sym (entry_map no_request R.all (closed_at (is_returning_from q)) x refl)) (closed_named n (is_returning_from q) (request_of R x) (k x))
+returning_closed n R q k x = subst (RequestNamed n) (sym (entry_map no_request R.all (closed_at (is_returning_to q)) x refl)) (closed_named n (is_returning_to q) (request_of R x) (k x))
 
 pub queue_closed : (n : ℕ) (R : Requests) (q : ℕ) → AllNamed n R → AllNamed n (requests.close R q)
 queue_closed n R q k x = subst (RequestNamed n) (sym (entry_map no_request R.all (closed_at (is_in q)) x refl)) (closed_named n (is_in q) (request_of R x) (k x))

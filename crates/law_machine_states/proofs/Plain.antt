@@ -15,7 +15,7 @@ use Rattle.wdf_base.specs.declared.object.RequestForm.{RequestForm}
 use Rattle.wdf_base.specs.declared.object.RequestForm.TheVariants as form
 use Rattle.wdf_base.specs.declared.object.RequestInfo.{RequestInfo}
 use Rattle.wdf_base.specs.Lives.{is_live}
-use Rattle.wdf_base.specs.Places.{is_due, is_marked, is_returning_from}
+use Rattle.wdf_base.specs.Places.{is_due, is_marked, is_returning_to}
 use Rattle.wdf_model.specs.declared.enums.Mode.TheVariants as mode
 use Rattle.wdf_model.specs.declared.entries.Request.{Request}
 use Rattle.wdf_model.specs.Plans.{managed_queues, queues_of}
@@ -133,7 +133,7 @@ all_withdrawn plan q (r ∷ rs) S k = all_withdrawn plan q rs (withdraw plan q S
 
 all_returning : {A : Type 0} (qs : List ℕ) (S : State A) → AllPlain S.requests → AllPlain (fold close_returning S qs).requests
 all_returning [] S k = k
-all_returning (q ∷ qs) S k = all_returning qs (close_returning S q) (all_close S.requests (is_returning_from q) refl k)
+all_returning (q ∷ qs) S k = all_returning qs (close_returning S q) (all_close S.requests (is_returning_to q) refl k)
 
 all_closed : {A : Type 0} (qs : List ℕ) (S : State A) → AllPlain S.requests → AllPlain (fold close_queue S qs).requests
 all_closed [] S k = k

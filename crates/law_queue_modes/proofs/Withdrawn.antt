@@ -21,7 +21,7 @@ use Rattle.wdf_base.specs.declared.call.Callback.TheVariants as callback
 use Rattle.wdf_model.specs.parts.Requests.{Requests, cancel, cancelled, moved, place_of, request_of}
 use Rattle.wdf_model.specs.parts.Queues.{Queues, waiting_in}
 use Rattle.wdf_model.specs.parts.Control.{Control, control_of, is_closed, set_mode, with_control}
-use Rattle.wdf_model.specs.State.{State, is_powered, object_in, returns_from, withdrawn_place}
+use Rattle.wdf_model.specs.State.{State, is_powered, object_in, returns_to, withdrawn_place}
 use Rattle.wdf_model.specs.Ids.{object_id}
 use Rattle.wdf_model.specs.declared.deed.Deed.TheVariants.{PurgeQueue}
 use Rattle.wdf_model.specs.rules.Deeds.{do_deed, do_deeds, withdraw}
@@ -82,7 +82,7 @@ module _ {A : Type 0} (plan : Plan) (q : ℕ) where
 
   -- where a request with these facts goes
   abbrev goes : State A → Request → Place
-  goes S y = if y.info.received && returns_from plan S q then place.Returning (record { 0 = q }) else place.Closing status.Cancelled
+  goes S y = if y.info.received && returns_to plan S q then place.Returning (record { 0 = q }) else place.Closing status.Cancelled
 
   abbrev taken : State A → ℕ → Request
   taken S r = moved (goes S (request_of S.requests r)) (cancelled (request_of S.requests r))

@@ -6,7 +6,7 @@
 #![tactic(auto)]
 
 ghost use Rattle.std.specs.Prelude.{◌≡◌, ◌≤◌, length, take};
-ghost use Rattle.wdf_model.specs.agents.AnyAgent.{agent_meaning};
+ghost use Rattle.wdf_model.specs.agents.AnyAgent.{agents};
 ghost use Rattle.wdf_model.specs.rules.Ready.{ready};
 ghost use Rattle.law_machine_worked.specs.RunsOfSerial.{serial_port_plan, serial_port_events};
 
@@ -26,7 +26,7 @@ const SERIAL_PORT: [usize; 162] = [
 /// How many events may follow the first k events of the serial port's run.
 pub fn ready_len_after(k: usize) -> usize
     requires { k ≤ SERIAL_PORT_EVENTS }
-    ensures { result ≡ length (ready serial_port_plan agent_meaning (take k serial_port_events)) }
+    ensures { result ≡ length (ready serial_port_plan agents (take k serial_port_events)) }
 {
     SERIAL_PORT[k]
 }

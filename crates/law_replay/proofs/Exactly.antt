@@ -11,7 +11,7 @@ use Rattle.wdf_parse.specs.StandsFor.{StandsFor}
 use Rattle.wdf_refusals.specs.First.{first_refusal}
 use Rattle.wdf_plan.specs.Plans.{plan_of}
 use Rattle.wdf_model.specs.rules.Ready.{ending_of}
-use Rattle.wdf_model.specs.agents.AnyAgent.{agent_meaning}
+use Rattle.wdf_dev.specs.Agents.{agent_meaning}
 use Rattle.wdf_run_text.specs.Texts.{text_of}
 use Rattle.wdf_replay.specs.declared.verdict.Verdict.{Verdict}
 use Rattle.wdf_replay.specs.declared.verdict.Verdict.TheVariants as verdict

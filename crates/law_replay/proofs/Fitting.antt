@@ -27,8 +27,9 @@ use Rattle.law_machine_lives.proofs.Lists.{Each}
 use Rattle.wdf_run_text.specs.Texts.{HasEventsOf}
 use Rattle.wdf_trace.specs.Events.{IsEventOf}
 use Rattle.law_lines.specs.PostNumbers.{ActionNumbersFit, PostNumbersFit}
-use Rattle.wdf_model.specs.agents.AnyAgent.{AnyAgent, agent_after, agent_at, agent_due, agent_meaning, agent_value, device_or_target}
-use Rattle.wdf_model.specs.agents.AnyAgent as agent
+use Rattle.wdf_dev.specs.Agents.{agent_after, agent_at, agent_due, agent_meaning, agent_value, device_or_target}
+use Rattle.wdf_dev.specs.declared.any.AnyAgent.{AnyAgent}
+use Rattle.wdf_dev.specs.declared.any.AnyAgent.TheVariants as agent
 use Rattle.law_lines.specs.Agents.{HasFittingAgents}
 use Rattle.law_lines.specs.Fitting.{HasFittingNumbers}
 use Rattle.law_lines.proofs.Expressions.{FitsIfAny, flag_small}

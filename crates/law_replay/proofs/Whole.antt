@@ -12,7 +12,7 @@ use Rattle.wdf_refusals.specs.First.{first_refusal}
 use Rattle.wdf_plan.specs.Plans.{plan_of}
 use Rattle.wdf_plan.proofs.Whole.{plan_resolved}
 use Rattle.wdf_model.specs.rules.Ready.{IsRunOf, ending_of}
-use Rattle.wdf_model.specs.agents.AnyAgent.{agent_meaning}
+use Rattle.wdf_dev.specs.Agents.{agent_meaning}
 use Rattle.wdf_run_text.specs.Texts.{text_of, HasEventsOf}
 use Rattle.wdf_replay.specs.Verdicts.{IsWhole}
 use Rattle.law_replay.proofs.Cut.{lines_text, text_whole}

@@ -2,7 +2,7 @@
 use Rattle.std.proofs.Common.{ℕ, List, refl, subst}
 use Rattle.wdf_base.specs.declared.plan.Plan.{Plan}
 use Rattle.wdf_model.specs.rules.Ready.{ending_of}
-use Rattle.wdf_model.specs.agents.AnyAgent.{agent_meaning}
+use Rattle.wdf_dev.specs.Agents.{agent_meaning}
 use Rattle.wdf_run_text.specs.Texts.{text_of}
 use Rattle.wdf_replay.specs.Verdicts.{GivesVerdict}
 use Rattle.law_text.specs.Marks.{EndsInFeed, IsParted}

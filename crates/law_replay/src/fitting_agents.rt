@@ -1,6 +1,6 @@
 //! The numbers that the agents of the program post and show fit 64 bits.
 ghost use Rattle.wdf_base.specs.declared.plan.Plan.{Plan};
-ghost use Rattle.wdf_model.specs.agents.AnyAgent.{agent_meaning};
+ghost use Rattle.wdf_dev.specs.Agents.{agent_meaning};
 ghost use Rattle.law_lines.specs.Agents.{HasFittingAgents};
 ghost use Rattle.law_lines.specs.Fitting.{HasFittingNumbers};
 

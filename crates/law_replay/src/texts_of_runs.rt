@@ -10,7 +10,7 @@ ghost use Rattle.wdf_parse.specs.StandsFor.{StandsFor};
 ghost use Rattle.wdf_refusals.specs.First.{first_refusal};
 ghost use Rattle.wdf_plan.specs.Plans.{plan_of};
 ghost use Rattle.wdf_model.specs.rules.Ready.{IsRunOf, ending_of};
-ghost use Rattle.wdf_model.specs.agents.AnyAgent.{agent_meaning};
+ghost use Rattle.wdf_dev.specs.Agents.{agent_meaning};
 ghost use Rattle.wdf_run_text.specs.Texts.{text_of, HasEventsOf};
 ghost use Rattle.wdf_replay.specs.Verdicts.{IsWhole};
 ghost use Rattle.law_lines.specs.Agents.{HasFittingAgents};

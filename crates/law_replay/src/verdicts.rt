@@ -3,7 +3,7 @@ ghost use Rattle.std.specs.Prelude.{ℕ, List};
 ghost use Rattle.wdf_base.specs.Meaning.{Meaning};
 ghost use Rattle.wdf_base.specs.Resolved.{IsResolved};
 ghost use Rattle.wdf_base.specs.declared.plan.Plan.{Plan};
-ghost use Rattle.wdf_model.specs.agents.AnyAgent.{agent_meaning};
+ghost use Rattle.wdf_dev.specs.Agents.{agent_meaning};
 ghost use Rattle.law_lines.specs.Agents.{HasFittingAgents};
 ghost use Rattle.law_lines.specs.Fitting.{HasFittingNumbers};
 ghost use Rattle.law_text.specs.Marks.{EndsInFeed};

@@ -10,34 +10,31 @@ use Rattle.wdf_base.specs.declared.event.Event.TheVariants as event
 use Rattle.wdf_model.specs.State.{State}
 use Rattle.wdf_model.specs.rules.Deeds.{counted, do_deeds, told}
 use Rattle.wdf_model.specs.rules.Steps.{after, deeds}
-use Rattle.wdf_model.specs.agents.AnyAgent.{App, Device, LowerTarget, PnpManager}
-use Rattle.wdf_model.specs.agents.StackAgent.{StackAgent, Connector, StackManager, Usual, stack_agent_after, stack_agent_at}
+use Rattle.wdf_model.specs.agents.StackAgent.{StackAgent, App, Connector, Device, LowerTarget, StackManager, agent_after, agent_at}
 use Rattle.wdf_model.proofs.Counting.{counted_first, counting_commutes}
 use Rattle.law_stack.specs.Agents.{IsStackMeaning}
 
 -- an event that stays inside a frame changes no agent
-by_local : (x : StackAgent) (cpu : Cpu) (line : ℕ) → x ≡ stack_agent_after x (event.Local cpu line)
+by_local : (x : StackAgent) (cpu : Cpu) (line : ℕ) → x ≡ agent_after x (event.Local cpu line)
 by_local (StackManager m) cpu line = refl
+by_local (App p) cpu line = refl
+by_local (Device d) cpu line = refl
+by_local (LowerTarget t) cpu line = refl
 by_local (Connector c) cpu line = refl
-by_local (Usual (PnpManager p)) cpu line = refl
-by_local (Usual (App p)) cpu line = refl
-by_local (Usual (Device d)) cpu line = refl
-by_local (Usual (LowerTarget t)) cpu line = refl
 
-by_log : (x : StackAgent) (cpu : Cpu) (v : Value) → x ≡ stack_agent_after x (event.Log cpu v)
+by_log : (x : StackAgent) (cpu : Cpu) (v : Value) → x ≡ agent_after x (event.Log cpu v)
 by_log (StackManager m) cpu v = refl
+by_log (App p) cpu v = refl
+by_log (Device d) cpu v = refl
+by_log (LowerTarget t) cpu v = refl
 by_log (Connector c) cpu v = refl
-by_log (Usual (PnpManager p)) cpu v = refl
-by_log (Usual (App p)) cpu v = refl
-by_log (Usual (Device d)) cpu v = refl
-by_log (Usual (LowerTarget t)) cpu v = refl
 
 module _ {A : Type 0} (m : Meaning A) (is : IsStackMeaning m) where
   -- an agent as it was before an event
   pub record WasBefore (e : Event) (agents : List A) (k : ℕ) (a : A) : Type 0 where
     pub was : A
     pub at : slice_get agents k ≡ Some was
-    pub heard : is.seen a ≡ stack_agent_after (is.seen was) e
+    pub heard : is.seen a ≡ agent_after (is.seen was) e
 
   all_heard : (e : Event) (agents : List A) (k : ℕ) (a : A) → slice_get (map (λ x. m.fold x e) agents) k ≡ Some a → WasBefore e agents k a
   all_heard e [] k a h = absurd (let z : ⊥ = cc in z)
@@ -77,12 +74,12 @@ module _ {A : Type 0} (m : Meaning A) (is : IsStackMeaning m) where
   agent_before plan S e k a h = told_before e S.agents k a (ap (λ (xs : List A). slice_get xs k) (sym (agents_after plan S e)) ∙ h)
 
   -- the agents at the opening
-  opened : (plan : Plan) (low n k : ℕ) (a : A) → slice_get (map (m.begin plan) (range_with_len low n)) k ≡ Some a → is.seen a ≡ stack_agent_at plan (low + k)
+  opened : (plan : Plan) (low n k : ℕ) (a : A) → slice_get (map (m.begin plan) (range_with_len low n)) k ≡ Some a → is.seen a ≡ agent_at plan (low + k)
   opened plan low zero k a h = absurd (let z : ⊥ = cc in z)
   opened plan low (suc n) zero a h =
       let same : m.begin plan low ≡ a = cc in
-      ap is.seen (sym same) ∙ is.begins plan low ∙ ap (stack_agent_at plan) (let z : low ≡ low + 0 = omega arith in z)
-  opened plan low (suc n) (suc k) a h = opened plan (low + 1) n k a h ∙ ap (stack_agent_at plan) (let z : (low + 1) + k ≡ low + suc k = omega arith in z)
+      ap is.seen (sym same) ∙ is.begins plan low ∙ ap (agent_at plan) (let z : low ≡ low + 0 = omega arith in z)
+  opened plan low (suc n) (suc k) a h = opened plan (low + 1) n k a h ∙ ap (agent_at plan) (let z : (low + 1) + k ≡ low + suc k = omega arith in z)
 
-  pub opens_as : (plan : Plan) (n k : ℕ) (a : A) → slice_get (map (m.begin plan) (range_with_len 0 n)) k ≡ Some a → is.seen a ≡ stack_agent_at plan k
-  opens_as plan n k a h = opened plan 0 n k a h ∙ ap (stack_agent_at plan) (let z : 0 + k ≡ k = omega arith in z)
+  pub opens_as : (plan : Plan) (n k : ℕ) (a : A) → slice_get (map (m.begin plan) (range_with_len 0 n)) k ≡ Some a → is.seen a ≡ agent_at plan k
+  opens_as plan n k a h = opened plan 0 n k a h ∙ ap (agent_at plan) (let z : 0 + k ≡ k = omega arith in z)

@@ -22,7 +22,7 @@ use Rattle.wdf_laws.specs.Signs.{shows}
 use Rattle.wdf_laws.specs.Words.{ever}
 use Rattle.law_trace_once.proofs.Completions.{completion_completes}
 use Rattle.law_trace_once.proofs.Words.{any_weaker, ever_is, found_counts}
-use Rattle.law_trace_families.proofs.Drained.{completed_once_at_each}
+use Rattle.law_trace_families.proofs.Drained.{law_1_at_each}
 use Rattle.law_stack.specs.Descents.{GoesDown, arrives_at}
 use Rattle.law_machine_lives.proofs.Lists.{all_at}
 
@@ -59,7 +59,7 @@ module _ {A : Type 0} (plan : Plan) (m : Meaning A) (run : List Event) (is_run :
 
   pub once_where_destroyed : (r x j : ℕ) (d : Handle) (down : GoesDown plan run r x) → arrives_at down.post d.id.0 ≡ true → down.place < j → slice_get run j ≡ Some (event.Destroy d) → count_by (completes x) run ≡ 1
   once_where_destroyed r x j d down at early end =
-      let law = both_right (completes_once (take j run) None) (ends_after_requests (take j run) (Some d.id.0)) (completed_once_at_each plan m run j (event.Destroy d) is_run end) in
+      let law = both_right (completes_once (take j run) None) (ends_after_requests (take j run) (Some d.id.0)) (law_1_at_each plan m run j (event.Destroy d) is_run end) in
       let here = at_front run j down.place (event.Posted down.agent down.post (Some down.made)) early down.event in
       let settled = all_at (is_settled (take j run) d.id.0) (take j run) down.place (event.Posted down.agent down.post (Some down.made)) law here in
       let done = settled_is (take j run) d.id.0 down.agent down.post down.made (brought down.post d.id.0 at) settled in

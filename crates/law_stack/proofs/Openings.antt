@@ -1,19 +1,19 @@
 -- The agents at the opening: a connector for each connected target, and no other agent has one.
-use Rattle.std.proofs.Common.{if◌then◌else◌, ◌≡◌, ℕ, zero, suc, ◌+◌, ◌-◌, ◌==◌, ◌<◌, ◌≤◌, Bool, true, false, List, [], ◌⊎◌, inl, inr, length, map, Option, Some, None, option_map, option_and_then, unwrap_or, refl, sym, ap, subst, ◌∙◌, arith}
+use Rattle.std.proofs.Common.{◌≡◌, ℕ, zero, suc, ◌+◌, ◌-◌, ◌==◌, ◌<◌, ◌≤◌, nat_lt, Bool, true, false, List, [], ◌⊎◌, inl, inr, length, map, Option, Some, None, option_map, option_and_then, unwrap_or, slice_get, refl, sym, ap, subst, ◌∙◌, arith}
 use Rattle.std.specs.List.{range_with_len}
-use Rattle.std.proofs.lemmas.Bool.{cases_lt, eqb-true}
-use Rattle.std.proofs.lemmas.Option.{slice_get_past}
+use Rattle.std.proofs.lemmas.Bool.{cases_lt, eqb-true, lt-ltb, ltb-false, ltb-true}
+use Rattle.std.proofs.lemmas.Option.{slice_get_past, slice_get_within}
 use Rattle.wdf_base.specs.Meaning.{Meaning}
 use Rattle.wdf_base.specs.declared.plan.Plan.{Plan}
 use Rattle.wdf_base.specs.declared.declared.TargetInfo.{TargetInfo}
 use Rattle.wdf_model.specs.Tables.{entry}
-use Rattle.wdf_model.specs.Plans.{as_target, target_of, target_of_agent}
+use Rattle.wdf_model.specs.Plans.{as_target, device_of_agent, devices_of, first_device_agent, is_app, target_of, target_of_agent}
 use Rattle.wdf_model.specs.parts.Targets.{Target, no_target, opening_target, opening_targets, the_target}
 use Rattle.wdf_model.specs.State.{State, opening}
 use Rattle.wdf_model.specs.agents.Chains.{connected_to}
 use Rattle.wdf_model.specs.agents.Connector.{connector_at}
 use Rattle.wdf_model.specs.agents.StackAgent as stack
-use Rattle.wdf_model.specs.agents.StackManager.{stack_manager_at}
+use Rattle.wdf_model.proofs.Tests.{both_right}
 use Rattle.law_stack.specs.Words.{Passing, connector_of, if_connected, passings}
 use Rattle.law_stack.proofs.Connectors.{AgentKept, IsKept}
 use Rattle.law_stack.proofs.Held.{IsThere}
@@ -73,7 +73,7 @@ module _ {A : Type 0} (plan : Plan) (m : Meaning A) where
         room = omega arith;
       }
 
-  target_opens : (k t : ℕ) (o : Option ℕ) → connected_to plan t ≡ o → target_of_agent plan k ≡ Some t → AgentKept plan [] start k (stack.connector_or_usual plan k t o)
+  target_opens : (k t : ℕ) (o : Option ℕ) → connected_to plan t ≡ o → target_of_agent plan k ≡ Some t → AgentKept plan [] start k (stack.target_agent plan t k o)
   target_opens k t None e at =
       let none : if_connected plan t ≡ None = rw e refl in
       ap (option_and_then (if_connected plan)) at ∙ none
@@ -81,14 +81,25 @@ module _ {A : Type 0} (plan : Plan) (m : Meaning A) where
       let it : if_connected plan t ≡ Some t = rw e refl in
       connector_opens k t lower (ap (option_and_then (if_connected plan)) at ∙ it)
 
-  -- agent k at the opening, by its target
-  owned_opens : (k : ℕ) (t : Option ℕ) → target_of_agent plan k ≡ t → AgentKept plan [] start k (stack.target_or_usual plan k t)
-  owned_opens k (Some t) f = target_opens k t (connected_to plan t) refl f
-  owned_opens k None f = ap (option_and_then (if_connected plan)) f
+  -- a device's agent is before those of targets
+  device_first : (k d : ℕ) (late : Bool) → nat_lt k (first_device_agent plan) ≡ late → device_of_agent plan k ≡ Some d → connector_of plan k ≡ None
+  device_first k d true e h = absurd (let n : None ≡ Some d = rw e at h in let z : ⊥ = cc in z)
+  device_first k d false e h =
+      let from = ltb-false k (first_device_agent plan) e in
+      let at : slice_get (devices_of plan) (k - first_device_agent plan) ≡ Some d = rw e at h in
+      let less = slice_get_within (devices_of plan) (k - first_device_agent plan) d at in
+      let early : nat_lt k (first_device_agent plan + length (devices_of plan)) ≡ true = lt-ltb k (first_device_agent plan + length (devices_of plan)) (omega (arith, from, less)) in
+      rw early refl
 
-  opens_by : (k : ℕ) (first : Bool) → (k == 0) ≡ first → AgentKept plan [] start k (if first then stack.StackManager (stack_manager_at plan) else stack.target_or_usual plan k (target_of_agent plan k))
-  opens_by k true e = no_target_before plan k (let z : k ≡ 0 = eqb-true k 0 e in omega (arith, z))
-  opens_by k false e = owned_opens k (target_of_agent plan k) refl
+  owned_opens : (k : ℕ) (d t : Option ℕ) → device_of_agent plan k ≡ d → target_of_agent plan k ≡ t → AgentKept plan [] start k (stack.device_or_target plan k d t)
+  owned_opens k (Some d) t e f = device_first k d (nat_lt k (first_device_agent plan)) refl e
+  owned_opens k None (Some t) e f = target_opens k t (connected_to plan t) refl f
+  owned_opens k None None e f = ap (option_and_then (if_connected plan)) f
 
-  pub agent_opens : (k : ℕ) → AgentKept plan [] start k (stack.stack_agent_at plan k)
-  agent_opens k = opens_by k (k == 0) refl
+  opens_by : (k : ℕ) (first app : Bool) → (k == 0) ≡ first → is_app plan k ≡ app → AgentKept plan [] start k (stack.agent_at plan k)
+  opens_by k true app e f = let none = no_target_before plan k (let z : k ≡ 0 = eqb-true k 0 e in omega (arith, z)) in rw e none
+  opens_by k false true e f = let none = no_target_before plan k (ltb-true k (first_device_agent plan) (both_right (nat_lt 0 k) (nat_lt k (first_device_agent plan)) f)) in rw (e, f) none
+  opens_by k false false e f = rw (e, f) (owned_opens k (device_of_agent plan k) (target_of_agent plan k) refl refl)
+
+  pub agent_opens : (k : ℕ) → AgentKept plan [] start k (stack.agent_at plan k)
+  agent_opens k = opens_by k (k == 0) (is_app plan k) refl refl

@@ -24,7 +24,7 @@ use Rattle.wdf_model.specs.rules.Posts.{due_of, post_answer, post_fits}
 use Rattle.wdf_model.specs.rules.Ready.{IsRunOf, state_after}
 use Rattle.wdf_model.specs.rules.Steps.{after, may}
 use Rattle.wdf_model.specs.agents.StackAgent as stack
-use Rattle.wdf_model.specs.agents.StackAgent.{StackAgent, stack_agent_after, stack_agent_due}
+use Rattle.wdf_model.specs.agents.StackAgent.{StackAgent, agent_after, agent_due}
 use Rattle.wdf_model.specs.agents.StackManager.{StackManager, ask_of, due_of_line, first_in, first_post, is_working, leader, known, manager_posted, next_post, phase_in, stack_device, stack_manager_after, stack_manager_at, stack_manager_due}
 use Rattle.wdf_model.proofs.Runs.{take_ended, take_next}
 use Rattle.wdf_model.proofs.Sames.{handle_same}
@@ -195,7 +195,7 @@ module _ {A : Type 0} (plan : Plan) (m : Meaning A) (is : IsStackMeaning m) (res
     fits : is_handle plan kind.Device d ≡ true
     poster : A
     there : slice_get (at_place n).agents 0 ≡ Some poster
-    due : stack_agent_due (is.seen poster) ≡ Some (post.Ask a d)
+    due : agent_due (is.seen poster) ≡ Some (post.Ask a d)
 
   ask_comes : (n agent : ℕ) (a : Ask) (d : Handle) (answer : Option Handle) → slice_get run n ≡ Some (event.Posted agent (post.Ask a d) answer) → AskComes n agent a d
   ask_comes n agent a d answer at =
@@ -215,10 +215,10 @@ module _ {A : Type 0} (plan : Plan) (m : Meaning A) (is : IsStackMeaning m) (res
       }
 
   -- which is agent 0
-  due_of_first : (n agent : ℕ) (a : Ask) (d : Handle) (x : A) → AskComes n agent a d → slice_get (at_place n).agents 0 ≡ Some x → stack_agent_due (is.seen x) ≡ Some (post.Ask a d)
+  due_of_first : (n agent : ℕ) (a : Ask) (d : Handle) (x : A) → AskComes n agent a d → slice_get (at_place n).agents 0 ≡ Some x → agent_due (is.seen x) ≡ Some (post.Ask a d)
   due_of_first n agent a d x c here =
       let same : c.poster ≡ x = (let there : Some c.poster ≡ Some x = sym c.there ∙ here in cc) in
-      sym (ap (λ y. stack_agent_due (is.seen y)) same) ∙ c.due
+      sym (ap (λ y. agent_due (is.seen y)) same) ∙ c.due
 
   abbrev LedAt : ℕ → Type 0
   LedAt n = (a : A) → slice_get (at_place n).agents 0 ≡ Some a → LedBy plan (take n run) (at_place n).pnp (is.seen a)
@@ -236,7 +236,7 @@ module _ {A : Type 0} (plan : Plan) (m : Meaning A) (is : IsStackMeaning m) (res
       (stands_passed plan (take n run) (at_place n).pnp U.pnp d s j idle next same (l.last d.id.0) k l.stands)
   stands_next n x k U e at here seen l (Asked agent a d answer said free same) =
       let c = ask_comes n agent a d answer (at ∙ ap Some said) in
-      let due : stack_manager_due k ≡ Some (post.Ask a d) = sym (ap stack_agent_due seen) ∙ due_of_first n agent a d x c here in
+      let due : stack_manager_due k ≡ Some (post.Ask a d) = sym (ap agent_due seen) ∙ due_of_first n agent a d x c here in
       subst (λ y. Stands plan (take n run ++ y ∷ []) U.pnp (stack_manager_after k y).awaited (stack_manager_after k y).rest) (sym said)
       (asked_leads plan resolved (take n run) (at_place n).pnp k l a d c.fits agent answer U.pnp c.first same (posts_by k a d k.awaited refl due))
 
@@ -256,10 +256,12 @@ module _ {A : Type 0} (plan : Plan) (m : Meaning A) (is : IsStackMeaning m) (res
       }
 
   led_by : (n : ℕ) (x : A) (s : StackAgent) (e : Event) → slice_get run n ≡ Some e → slice_get (at_place n).agents 0 ≡ Some x → is.seen x ≡ s → LedBy plan (take n run) (at_place n).pnp s
-      → LedBy plan (take n run ++ e ∷ []) (after plan m (at_place n) e).pnp (stack_agent_after s e)
+      → LedBy plan (take n run ++ e ∷ []) (after plan m (at_place n) e).pnp (agent_after s e)
   led_by n x (stack.StackManager k) e at here seen l = leads_next n x k e at here seen l
+  led_by n x (stack.App p) e at here seen l = absurd l
+  led_by n x (stack.Device d) e at here seen l = absurd l
+  led_by n x (stack.LowerTarget t) e at here seen l = absurd l
   led_by n x (stack.Connector c) e at here seen l = absurd l
-  led_by n x (stack.Usual a) e at here seen l = absurd l
 
   led_after : (n : ℕ) (e : Event) → slice_get run n ≡ Some e → LedAt n → (a : A) → slice_get (after plan m (at_place n) e).agents 0 ≡ Some a → LedBy plan (take n run ++ e ∷ []) (after plan m (at_place n) e).pnp (is.seen a)
   led_after n e at led a here =
@@ -288,9 +290,11 @@ module _ {A : Type 0} (plan : Plan) (m : Meaning A) (is : IsStackMeaning m) (res
   -- ---- the law
 
   in_order_by : (n agent : ℕ) (a : Ask) (d : Handle) (s : StackAgent) → (c : AskComes n agent a d) → is.seen c.poster ≡ s → LedBy plan (take n run) (at_place n).pnp s → asked_in_order plan (take n run) a d.id.0 ≡ true
-  in_order_by n agent a d (stack.StackManager k) c seen l = post_in_order plan resolved (take n run) (at_place n).pnp k l a d c.fits (posts_by k a d k.awaited refl (sym (ap stack_agent_due seen) ∙ c.due))
+  in_order_by n agent a d (stack.StackManager k) c seen l = post_in_order plan resolved (take n run) (at_place n).pnp k l a d c.fits (posts_by k a d k.awaited refl (sym (ap agent_due seen) ∙ c.due))
+  in_order_by n agent a d (stack.App p) c seen l = absurd l
+  in_order_by n agent a d (stack.Device p) c seen l = absurd l
+  in_order_by n agent a d (stack.LowerTarget t) c seen l = absurd l
   in_order_by n agent a d (stack.Connector k) c seen l = absurd l
-  in_order_by n agent a d (stack.Usual u) c seen l = absurd l
 
   asks_in_order : (n agent : ℕ) (p : Post) (answer : Option Handle) → slice_get run n ≡ Some (event.Posted agent p answer) → order_post_keeps plan (take n run) p ≡ true
   asks_in_order n agent (post.Ask a d) answer at = let c = ask_comes n agent a d answer at in in_order_by n agent a d (is.seen c.poster) c refl (led_at n c.poster c.there)

@@ -18,7 +18,7 @@ use Rattle.wdf_model.specs.rules.Steps.{after, may}
 use Rattle.wdf_model.specs.agents.Connector as connector
 use Rattle.wdf_model.specs.agents.Connector.{connector_due}
 use Rattle.wdf_model.specs.agents.StackAgent as stack
-use Rattle.wdf_model.specs.agents.StackAgent.{StackAgent, stack_agent_after, stack_agent_due}
+use Rattle.wdf_model.specs.agents.StackAgent.{StackAgent, agent_after, agent_due}
 use Rattle.wdf_model.proofs.Runs.{along_run}
 use Rattle.wdf_model.proofs.Tests.{both_left}
 use Rattle.law_machine_base.specs.FactsOfEvents.{IsTick}
@@ -38,15 +38,19 @@ module _ {A : Type 0} (plan : Plan) (m : Meaning A) (is : IsStackMeaning m) wher
   abbrev pub AllKept : List Event → State A → Type 0
   AllKept es S = (k : ℕ) (a : A) → slice_get S.agents k ≡ Some a → AgentKept plan es S k (is.seen a)
 
-  next_by : (es : List Event) (S : State A) (k : ℕ) (x : StackAgent) (e : Event) → PlacesAgree S → may plan m S e ≡ true → AgentKept plan es S k x → AgentKept plan (es ++ e ∷ []) (after plan m S e) k (stack_agent_after x e)
+  next_by : (es : List Event) (S : State A) (k : ℕ) (x : StackAgent) (e : Event) → PlacesAgree S → may plan m S e ≡ true → AgentKept plan es S k x → AgentKept plan (es ++ e ∷ []) (after plan m S e) k (agent_after x e)
   next_by es S k (stack.Connector c) e places may_ h = kept_next plan m es S places k c h e may_
   next_by es S k (stack.StackManager x) e places may_ h = h
-  next_by es S k (stack.Usual x) e places may_ h = h
+  next_by es S k (stack.App x) e places may_ h = h
+  next_by es S k (stack.Device x) e places may_ h = h
+  next_by es S k (stack.LowerTarget x) e places may_ h = h
 
-  ticks_by : (es : List Event) (S : State A) (k : ℕ) (x : StackAgent) (time : ℕ) → PlacesAgree S → AgentKept plan es S k x → AgentKept plan (es ++ event.Tick time ∷ []) (after plan m S (event.Tick time)) k (stack_agent_after x (event.Tick time))
+  ticks_by : (es : List Event) (S : State A) (k : ℕ) (x : StackAgent) (time : ℕ) → PlacesAgree S → AgentKept plan es S k x → AgentKept plan (es ++ event.Tick time ∷ []) (after plan m S (event.Tick time)) k (agent_after x (event.Tick time))
   ticks_by es S k (stack.Connector c) time places h = kept_ticks plan m es S places k c h time
   ticks_by es S k (stack.StackManager x) time places h = h
-  ticks_by es S k (stack.Usual x) time places h = h
+  ticks_by es S k (stack.App x) time places h = h
+  ticks_by es S k (stack.Device x) time places h = h
+  ticks_by es S k (stack.LowerTarget x) time places h = h
 
   all_next : (es : List Event) (S : State A) (e : Event) → PlacesAgree S → may plan m S e ≡ true → AllKept es S → AllKept (es ++ e ∷ []) (after plan m S e)
   all_next es S e places may_ h k a at =
@@ -85,7 +89,7 @@ module _ {A : Type 0} (plan : Plan) (m : Meaning A) (is : IsStackMeaning m) wher
     pub agent : A
     pub at : slice_get S.agents k ≡ Some agent
     pub due : Post
-    pub is_due : stack_agent_due (is.seen agent) ≡ Some due
+    pub is_due : agent_due (is.seen agent) ≡ Some due
     pub same : same_post due p ≡ true
 
   due_by : (S : State A) (k : ℕ) (p : Post) (o : Option A) → slice_get S.agents k ≡ o → same_option same_post (option_and_then m.due o) (Some p) ≡ true → IsDue S k p
@@ -110,10 +114,12 @@ module _ {A : Type 0} (plan : Plan) (m : Meaning A) (is : IsStackMeaning m) wher
     pub is_due : connector_due connector ≡ Some due
     pub same : same_post due p ≡ true
 
-  posts_by : (es : List Event) (S : State A) (k t : ℕ) (p : Post) (x : StackAgent) (d : Post) → AgentKept plan es S k x → connector_of plan k ≡ Some t → stack_agent_due x ≡ Some d → same_post d p ≡ true → Posts es S k t p
+  posts_by : (es : List Event) (S : State A) (k t : ℕ) (p : Post) (x : StackAgent) (d : Post) → AgentKept plan es S k x → connector_of plan k ≡ Some t → agent_due x ≡ Some d → same_post d p ≡ true → Posts es S k t p
   posts_by es S k t p (stack.Connector c) d h at due same = record { connector = c; target = (let e : Some c.target ≡ Some t = sym h.is ∙ at in cc); kept = h; due = d; is_due = due; same = same }
   posts_by es S k t p (stack.StackManager x) d h at due same = absurd (let e : None ≡ Some t = sym h ∙ at in let z : ⊥ = cc in z)
-  posts_by es S k t p (stack.Usual x) d h at due same = absurd (let e : None ≡ Some t = sym h ∙ at in let z : ⊥ = cc in z)
+  posts_by es S k t p (stack.App x) d h at due same = absurd (let e : None ≡ Some t = sym h ∙ at in let z : ⊥ = cc in z)
+  posts_by es S k t p (stack.Device x) d h at due same = absurd (let e : None ≡ Some t = sym h ∙ at in let z : ⊥ = cc in z)
+  posts_by es S k t p (stack.LowerTarget x) d h at due same = absurd (let e : None ≡ Some t = sym h ∙ at in let z : ⊥ = cc in z)
 
   module _ (run : List Event) (is_run : IsRunOf plan m run) (n k : ℕ) (p : Post) (answer : Option Handle) (at : slice_get run n ≡ Some (event.Posted k p answer)) where
     abbrev before : List Event

@@ -15,7 +15,7 @@ ghost use Rattle.law_machine_base.specs.OverRuns.{completes};
 ghost use Rattle.law_stack.specs.Agents.{IsStackMeaning};
 ghost use Rattle.law_stack.specs.Descents.{GoesDown, IsBelow, arrives_at};
 ghost use Rattle.law_stack.specs.Laws.{order_law, request_law, stack_law};
-ghost use Rattle.wdf_model.specs.agents.StackAgent.{stack_meaning};
+ghost use Rattle.wdf_stack.specs.Agents.{stack_meaning};
 
 /// Every run of a plan with the agents of the word `stack` keeps the laws on requests at each place. Each arrival by a
 /// connector belongs to a Send: there is one without an arrival whose request isn't done. Each `done` by a connector has its

@@ -1,7 +1,7 @@
 -- The run with the last arrival, computed from the definitions.
 use Rattle.std.proofs.Common.{[], refl}
 use Rattle.wdf_base.specs.declared.event.Ending.TheVariants as ending
-use Rattle.wdf_model.specs.agents.StackAgent.{stack_meaning}
+use Rattle.wdf_model.specs.agents.StackAgent.{stack_agents}
 use Rattle.wdf_model.specs.rules.Script.{value_of}
 use Rattle.law_machine_base.specs.Course.{run_with}
 use Rattle.law_machine_base.proofs.Course.{worked_with}
@@ -14,7 +14,7 @@ use Rattle.law_stack_worked.specs.LastArrival.{last_arrival_plan, last_arrival_e
 pub last_arrival_is : IsStackRun last_arrival_plan last_arrival_events ending.Limit []
 unfolding run_with value_of keeps_stack_laws passings works
 last_arrival_is = record {
-  worked = worked_with last_arrival_plan stack_meaning 26 last_arrival_events ending.Limit refl refl (over ending.Limit refl);
+  worked = worked_with last_arrival_plan stack_agents 26 last_arrival_events ending.Limit refl refl (over ending.Limit refl);
   stuck = refl;
   keeps = refl;
 }

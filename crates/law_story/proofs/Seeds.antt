@@ -10,7 +10,7 @@ use Rattle.wdf_plan.specs.Plans.{plan_of}
 use Rattle.wdf_plan.proofs.Bounds.{plan_bounded}
 use Rattle.wdf_model.specs.rules.Ready.{IsPickedRun, IsRunOf, ready}
 use Rattle.wdf_model.proofs.Runs.{picked_is_run, run_opens}
-use Rattle.wdf_model.specs.agents.AnyAgent.{agent_meaning}
+use Rattle.wdf_dev.specs.Agents.{agent_meaning}
 use Rattle.wdf_tries.specs.declared.tried.Case.{Case}
 use Rattle.wdf_tries.specs.Tries.{moved_case, moving_words, scene_for}
 use Rattle.wdf_shrink.specs.Stories.{IsStoryOfSeed}

@@ -9,7 +9,7 @@ use Rattle.wdf_parse.specs.StandsFor.{StandsFor}
 use Rattle.wdf_refusals.specs.First.{first_refusal}
 use Rattle.wdf_plan.specs.Plans.{plan_of}
 use Rattle.wdf_model.specs.rules.Ready.{IsPickedRun}
-use Rattle.wdf_model.specs.agents.AnyAgent.{agent_meaning}
+use Rattle.wdf_dev.specs.Agents.{agent_meaning}
 use Rattle.wdf_shrink.specs.Texts.{story_text}
 use Rattle.law_bare.specs.Agents.{SameActions}
 use Rattle.law_bare.specs.Lines.{bare_plan}

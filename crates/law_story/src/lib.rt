@@ -17,7 +17,7 @@ ghost use Rattle.wdf_parse.specs.StandsFor.{StandsFor};
 ghost use Rattle.wdf_refusals.specs.First.{first_refusal};
 ghost use Rattle.wdf_plan.specs.Plans.{plan_of};
 ghost use Rattle.wdf_model.specs.rules.Ready.{IsPickedRun};
-ghost use Rattle.wdf_model.specs.agents.AnyAgent.{agent_meaning};
+ghost use Rattle.wdf_dev.specs.Agents.{agent_meaning};
 ghost use Rattle.wdf_jitter.specs.Moved.{moved_scene};
 ghost use Rattle.wdf_tries.specs.declared.tried.Case.{Case};
 ghost use Rattle.wdf_tries.specs.Tries.{moved_case, scene_for};

@@ -9,7 +9,7 @@ use Rattle.wdf_base.specs.declared.call.CallKind.TheVariants as call
 use Rattle.wdf_base.specs.declared.frame.Pending.{Pending}
 use Rattle.wdf_base.specs.declared.wait.Cause.{Cause}
 use Rattle.wdf_base.specs.declared.wait.Cause.TheVariants as cause
-use Rattle.wdf_base.specs.Places.{is_returning_from, is_sent_to}
+use Rattle.wdf_base.specs.Places.{is_returning_to, is_sent_to}
 use Rattle.wdf_base.specs.Calls.{is_acquire}
 use Rattle.wdf_model.specs.Ids.{frame_id}
 use Rattle.wdf_model.specs.Tables.{contains, least}
@@ -89,10 +89,10 @@ module _ {A : Type 0} (plan : Plan) (S : State A) where
         | inr k ↦ has_back r (held_from S (object_in a)) (waiting_in S.queues (object_in a)) (has_id r (waiting_in S.queues (object_in a)) k)
       ])
   request_there call.WdfIoQueuePurgeSynchronously n a b d r h =
-      some_least by_one r (held_from S (object_in a) ++ requests_where S (is_returning_from (object_in a)))
-      (elim (or_cases (is_held_from S (object_in a) r) (is_returning_from (object_in a) (place_of S.requests r)) h) as (λ _. Has r (held_from S (object_in a) ++ requests_where S (is_returning_from (object_in a)))) [
-        | inl k ↦ has_front r (held_from S (object_in a)) (requests_where S (is_returning_from (object_in a))) (held_there S (object_in a) r k)
-        | inr k ↦ has_back r (held_from S (object_in a)) (requests_where S (is_returning_from (object_in a))) (placed_there S (is_returning_from (object_in a)) r refl k)
+      some_least by_one r (held_from S (object_in a) ++ requests_where S (is_returning_to (object_in a)))
+      (elim (or_cases (is_held_from S (object_in a) r) (is_returning_to (object_in a) (place_of S.requests r)) h) as (λ _. Has r (held_from S (object_in a) ++ requests_where S (is_returning_to (object_in a)))) [
+        | inl k ↦ has_front r (held_from S (object_in a)) (requests_where S (is_returning_to (object_in a))) (held_there S (object_in a) r k)
+        | inr k ↦ has_back r (held_from S (object_in a)) (requests_where S (is_returning_to (object_in a))) (placed_there S (is_returning_to (object_in a)) r refl k)
       ])
   request_there call.WdfIoTargetStop n a b d r h = some_least by_one r (requests_where S (is_sent_to (object_in a))) (placed_there S (is_sent_to (object_in a)) r refl h)
   request_there k n a b d r h = absurd (let z : ⊥ = cc in z)
@@ -164,7 +164,7 @@ module _ {A : Type 0} (plan : Plan) (S : State A) where
       part_placed call.WdfInterruptAcquireLock n a b d c e = placed_map place 1 (λ x. cause.ByLock (handle_in plan S (object_in a)) (frame_id x)) (holder S.locks (object_lock (object_in a))) (λ x. refl) c e
       part_placed call.WdfIoQueueStopSynchronously n a b d c e = placed_map place 1 by_one (least (held_from S (object_in a))) (λ x. refl) c e
       part_placed call.WdfIoQueueDrainSynchronously n a b d c e = placed_map place 1 by_one (least (held_from S (object_in a) ++ waiting_in S.queues (object_in a))) (λ x. refl) c e
-      part_placed call.WdfIoQueuePurgeSynchronously n a b d c e = placed_map place 1 by_one (least (held_from S (object_in a) ++ requests_where S (is_returning_from (object_in a)))) (λ x. refl) c e
+      part_placed call.WdfIoQueuePurgeSynchronously n a b d c e = placed_map place 1 by_one (least (held_from S (object_in a) ++ requests_where S (is_returning_to (object_in a)))) (λ x. refl) c e
       part_placed call.WdfIoTargetStop n a b d c e = placed_map place 1 by_one (least (requests_where S (is_sent_to (object_in a)))) (λ x. refl) c e
       part_placed call.WdfDpcCancel n a b d c e = placed_map place 1 (λ g. cause.ByFrame (frame_id g)) (least (filter (is_on S.cpus (object_in a)) (all_frames S.cpus))) (λ x. rw none refl) c e
       part_placed call.WdfTimerStop n a b d c e = placed_map place 1 (λ g. cause.ByFrame (frame_id g)) (least (filter (is_on S.cpus (object_in a)) (all_frames S.cpus))) (λ x. rw none refl) c e

@@ -20,7 +20,7 @@ use Rattle.wdf_base.specs.declared.wait.WaitLine.{WaitLine}
 use Rattle.wdf_model.specs.Ids.{frame_id}
 use Rattle.wdf_model.specs.declared.entries.Held.{Held}
 use Rattle.wdf_base.specs.declared.ids.ObjectId.{ObjectId}
-use Rattle.wdf_base.specs.Places.{is_queued_in, is_returning_from, is_sent_to}
+use Rattle.wdf_base.specs.Places.{is_queued_in, is_returning_to, is_sent_to}
 use Rattle.law_machine_base.specs.OverRuns.{PlacesAgree}
 use Rattle.wdf_model.specs.Tables.{contains, flag, ids_of, least}
 use Rattle.wdf_model.specs.Plans.{is_managed, is_manual_queue, queue_level}
@@ -145,10 +145,10 @@ call_so plan S call.WdfIoQueueDrainSynchronously n a b d =
       | inr k ↦ second (is_held_from S (object_in a) r) (contains r (waiting_in S.queues (object_in a))) (it_contains r (waiting_in S.queues (object_in a)) k)
     ])
 call_so plan S call.WdfIoQueuePurgeSynchronously n a b d =
-    gives_request _ plan S (held_from S (object_in a) ++ requests_where S (is_returning_from (object_in a)))
-    (λ r h. elim (has_either r (held_from S (object_in a)) (requests_where S (is_returning_from (object_in a))) h) [
-      | inl k ↦ first (is_held_from S (object_in a) r) (is_returning_from (object_in a) (place_of S.requests r)) (held_is S (object_in a) r k)
-      | inr k ↦ second (is_held_from S (object_in a) r) (is_returning_from (object_in a) (place_of S.requests r)) (placed S (is_returning_from (object_in a)) r k)
+    gives_request _ plan S (held_from S (object_in a) ++ requests_where S (is_returning_to (object_in a)))
+    (λ r h. elim (has_either r (held_from S (object_in a)) (requests_where S (is_returning_to (object_in a))) h) [
+      | inl k ↦ first (is_held_from S (object_in a) r) (is_returning_to (object_in a) (place_of S.requests r)) (held_is S (object_in a) r k)
+      | inr k ↦ second (is_held_from S (object_in a) r) (is_returning_to (object_in a) (place_of S.requests r)) (placed S (is_returning_to (object_in a)) r k)
     ])
 call_so plan S call.WdfIoTargetStop n a b d = gives_request _ plan S (requests_where S (is_sent_to (object_in a))) (λ r h. placed S (is_sent_to (object_in a)) r h)
 call_so plan S call.WdfDpcCancel n a b d = gives_frame _ (filter (is_on S.cpus (object_in a)) (all_frames S.cpus)) (λ g h. on_object S (object_in a) g h)

@@ -15,7 +15,7 @@ use Rattle.wdf_base.specs.declared.event.Event.TheVariants as event
 use Rattle.wdf_base.specs.declared.event.Ending.TheVariants as ending
 use Rattle.wdf_base.specs.declared.frame.Pending.{Pending}
 use Rattle.wdf_base.specs.declared.wait.Cause.TheVariants as cause
-use Rattle.wdf_base.specs.Places.{is_returning_from, is_sent_to}
+use Rattle.wdf_base.specs.Places.{is_returning_to, is_sent_to}
 use Rattle.wdf_model.specs.Ids.{cpu_of, frame_id}
 use Rattle.wdf_model.specs.declared.entries.Request.{Request}
 use Rattle.wdf_model.specs.declared.enums.Group.TheVariants as group
@@ -129,8 +129,8 @@ call_over plan S held call.WdfIoQueueDrainSynchronously n a b d h =
     let parts = front_none (held_from S (object_in a)) (waiting_in S.queues (object_in a)) (requests_gone plan S (held_from S (object_in a) ++ waiting_in S.queues (object_in a)) h) in
     both (nothing_held S (object_in a)) (is_empty_queue S.queues (object_in a)) (none_held S (object_in a) (held (object_in a)) parts.0) (rw parts.1 refl)
 call_over plan S held call.WdfIoQueuePurgeSynchronously n a b d h =
-    let parts = front_none (held_from S (object_in a)) (requests_where S (is_returning_from (object_in a))) (requests_gone plan S (held_from S (object_in a) ++ requests_where S (is_returning_from (object_in a))) h) in
-    both (nothing_held S (object_in a)) (nothing_returns S (object_in a)) (none_held S (object_in a) (held (object_in a)) parts.0) (ap not (none_at S (is_returning_from (object_in a)) parts.1))
+    let parts = front_none (held_from S (object_in a)) (requests_where S (is_returning_to (object_in a))) (requests_gone plan S (held_from S (object_in a) ++ requests_where S (is_returning_to (object_in a))) h) in
+    both (nothing_held S (object_in a)) (nothing_returns S (object_in a)) (none_held S (object_in a) (held (object_in a)) parts.0) (ap not (none_at S (is_returning_to (object_in a)) parts.1))
 call_over plan S held call.WdfIoTargetStop n a b d h =
     second (arg_is b 2) (nothing_at S (object_in a)) (ap not (none_at S (is_sent_to (object_in a)) (requests_gone plan S (requests_where S (is_sent_to (object_in a))) h)))
 call_over plan S held call.WdfDpcCancel n a b d h = second (arg_is b 0) (nobody_on S.cpus (object_in a)) (frames_gone S (object_in a) h)

@@ -20,7 +20,7 @@ use Rattle.wdf_base.specs.declared.wait.OpenThing.{OpenThing}
 use Rattle.wdf_base.specs.declared.wait.OpenThing.TheVariants as thing
 use Rattle.wdf_base.specs.Same.{same_callback}
 use Rattle.wdf_base.specs.Lives.{is_asked, is_cleaned, is_past_cleanup}
-use Rattle.wdf_base.specs.Places.{is_returning_from, is_sent_to}
+use Rattle.wdf_base.specs.Places.{is_returning_to, is_sent_to}
 use Rattle.wdf_base.specs.Callbacks.{dpc_function}
 use Rattle.wdf_base.specs.Calls.{is_acquire}
 use Rattle.wdf_model.specs.Tables.{contains, same_id}
@@ -95,7 +95,7 @@ waits_for_item _ = false
 abbrev pub is_awaited : {A : Type 0} → State A → CallKind → ℕ → ℕ → Bool
 is_awaited S call.WdfIoQueueStopSynchronously o r = is_held_from S o r
 is_awaited S call.WdfIoQueueDrainSynchronously o r = is_held_from S o r || contains r (waiting_in S.queues o)
-is_awaited S call.WdfIoQueuePurgeSynchronously o r = is_held_from S o r || is_returning_from o (place_of S.requests r)
+is_awaited S call.WdfIoQueuePurgeSynchronously o r = is_held_from S o r || is_returning_to o (place_of S.requests r)
 is_awaited S call.WdfIoTargetStop o r = is_sent_to o (place_of S.requests r)
 is_awaited S _ o r = false
 

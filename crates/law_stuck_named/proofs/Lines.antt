@@ -12,7 +12,7 @@ use Rattle.wdf_base.specs.declared.wait.Cause.{Cause}
 use Rattle.wdf_base.specs.declared.wait.WaitLine.{WaitLine}
 use Rattle.wdf_base.specs.declared.wait.OpenThing.{OpenThing}
 use Rattle.wdf_base.specs.declared.wait.OpenThing.TheVariants as thing
-use Rattle.wdf_base.specs.Places.{is_queued_in, is_returning_from}
+use Rattle.wdf_base.specs.Places.{is_queued_in, is_returning_to}
 use Rattle.wdf_model.specs.parts.Requests.{place_of}
 use Rattle.wdf_model.specs.parts.Pnp.{next_step, running_step}
 use Rattle.wdf_model.specs.State.{State}
@@ -34,7 +34,7 @@ pub record LeavingLine {A : Type 0} (plan : Plan) (S : State A) (o : ℕ) (x : O
 
 abbrev pub Tells : {A : Type 0} → Plan → State A → OpenThing → Option Cause → Type 0
 Tells plan S (thing.Queued r q) x = is_queued_in q.id.0 (place_of S.requests r.id.0) ≡ true
-Tells plan S (thing.Returning r q) x = is_returning_from q.id.0 (place_of S.requests r.id.0) ≡ true
+Tells plan S (thing.Returning r q) x = is_returning_to q.id.0 (place_of S.requests r.id.0) ≡ true
 Tells plan S (thing.Sequence d s) x = DeviceLine plan S d.id.0 s x
 Tells plan S (thing.Leaving o) x = LeavingLine plan S o.id.0 x
 Tells plan S (thing.Deferred o) x = is_open_work S o.id.0 ≡ true
@@ -46,7 +46,7 @@ LineTells plan S l = Tells plan S l.thing l.cause
 module _ {A : Type 0} (plan : Plan) (m : Meaning A) (S : State A) where
   request_told : (r : ℕ) (p : Place) → place_of S.requests r ≡ p → IfThere (LineTells plan S) (request_line plan S r p)
   request_told r (place.Queued q) e = ap (is_queued_in q.0) e ∙ itself q.0
-  request_told r (place.Returning q) e = ap (is_returning_from q.0) e ∙ itself q.0
+  request_told r (place.Returning q) e = ap (is_returning_to q.0) e ∙ itself q.0
   request_told r _ e = tt
 
   device_told : (d : ℕ) (now next : Option Step) → running_step S.pnp d ≡ now → next_step S.pnp d ≡ next → IfThere (LineTells plan S) (sequence_line plan S d now next)

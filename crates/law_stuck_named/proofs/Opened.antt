@@ -9,7 +9,7 @@ use Rattle.wdf_base.specs.declared.object.Place.{Place}
 use Rattle.wdf_base.specs.declared.object.Place.TheVariants as place
 use Rattle.wdf_base.specs.declared.object.RequestInfo.{RequestInfo}
 use Rattle.wdf_base.specs.Same.{same_kind}
-use Rattle.wdf_base.specs.Places.{is_done, is_marked, is_owned, is_queued_in, is_returning_from, is_sent}
+use Rattle.wdf_base.specs.Places.{is_done, is_marked, is_owned, is_queued_in, is_returning_to, is_sent}
 use Rattle.wdf_model.specs.declared.enums.Mode.TheVariants as mode
 use Rattle.wdf_model.specs.declared.entries.Request.{Request}
 use Rattle.wdf_model.specs.Tables.{flag, same_id}
@@ -161,7 +161,7 @@ module _ (plan : Plan) (L : ℕ → Bool) where
 
   all_returning : {A : Type 0} (qs : List ℕ) (S : State A) → Opened plan L S.requests → Opened plan L (fold close_returning S qs).requests
   all_returning [] S k = k
-  all_returning (q ∷ qs) S k = all_returning qs (close_returning S q) (all_close S.requests (is_returning_from q) refl k)
+  all_returning (q ∷ qs) S k = all_returning qs (close_returning S q) (all_close S.requests (is_returning_to q) refl k)
 
   all_closed : {A : Type 0} (qs : List ℕ) (S : State A) → Opened plan L S.requests → Opened plan L (fold close_queue S qs).requests
   all_closed [] S k = k

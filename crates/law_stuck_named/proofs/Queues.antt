@@ -1,4 +1,4 @@
--- A queue in which a request waits, or from which one returns, is live.
+-- A queue in which a request waits, or to which one returns, is live.
 use Rattle.std.proofs.Common.{◌≡◌, ◌≢◌, ℕ, ◌==◌, Bool, true, false, ◌&&◌, List, inl, inr, Option, Some, is_some, option_map, length, unwrap_or, refl, sym, ap, ◌∙◌}
 use Rattle.std.proofs.lemmas.Bool.{or_cases}
 use Rattle.wdf_base.specs.Meaning.{Meaning}
@@ -14,7 +14,7 @@ use Rattle.wdf_base.specs.declared.object.Place.{Place}
 use Rattle.wdf_base.specs.declared.object.Place.TheVariants as place
 use Rattle.wdf_base.specs.declared.event.Event.{Event}
 use Rattle.wdf_base.specs.Lives.{is_live}
-use Rattle.wdf_base.specs.Places.{is_done, is_queued_in, is_returning_from}
+use Rattle.wdf_base.specs.Places.{is_done, is_queued_in, is_returning_to}
 use Rattle.wdf_model.specs.declared.entries.Request.{Request}
 use Rattle.wdf_model.specs.Plans.{as_queue, device_of, device_of_queue}
 use Rattle.wdf_model.specs.parts.Tree.{kind_of, life_of}
@@ -55,7 +55,7 @@ arrived_by e false h made off = absurd (let t = made h in let z : ⊥ = cc in z)
 
 module _ {A : Type 0} (plan : Plan) (S : State A) (facts : Facts plan S) (placed : Placed S) (of : AllSuited plan (OfItsDevice plan) S.requests) (k : Stands plan S) where
   at_queue : (q r : ℕ) → is_in q (place_of S.requests r) ≡ true → device_of_queue plan q ≡ (info_of S.requests r).device.0
-  at_queue q r h = elim (or_cases (is_queued_in q (place_of S.requests r)) (is_returning_from q (place_of S.requests r)) h) [
+  at_queue q r h = elim (or_cases (is_queued_in q (place_of S.requests r)) (is_returning_to q (place_of S.requests r)) h) [
     | inl e ↦ queued_suits plan (OfItsDevice plan) S.requests q r of e
     | inr e ↦ (returning_suits plan (OfItsDevice plan) S.requests q r of e).0
   ]
@@ -84,7 +84,7 @@ queues_live {A} plan m run resolved is_run =
     record { queues = live_queue plan S n.facts n.placed of (stands_now plan m run resolved is_run) }
 
 pub queued_in : (q : ℕ) (p : Place) → is_queued_in q p ≡ true → is_in q p ≡ true
-queued_in q p h = first (is_queued_in q p) (is_returning_from q p) h
+queued_in q p h = first (is_queued_in q p) (is_returning_to q p) h
 
-pub returning_in : (q : ℕ) (p : Place) → is_returning_from q p ≡ true → is_in q p ≡ true
-returning_in q p h = second (is_queued_in q p) (is_returning_from q p) h
+pub returning_in : (q : ℕ) (p : Place) → is_returning_to q p ≡ true → is_in q p ≡ true
+returning_in q p h = second (is_queued_in q p) (is_returning_to q p) h

@@ -14,7 +14,7 @@ use Rattle.wdf_model.specs.State.{State}
 use Rattle.law_stuck_named_if.specs.Starts.{has_callback, is_live_queue, step_may_run}
 use Rattle.law_stuck_named.specs.Standing.{is_live_device}
 
--- a queue in which a request waits, or from which one returns, is live
+-- a queue in which a request waits, or to which one returns, is live
 pub record QueuesLive {A : Type 0} (S : State A) : Type 0 where
   pub queues : (q r : ℕ) → is_in q (place_of S.requests r) ≡ true → is_live_queue S q ≡ true
 

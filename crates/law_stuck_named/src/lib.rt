@@ -19,7 +19,7 @@ ghost use Rattle.wdf_model.specs.rules.Waits.{wait_list};
 ghost use Rattle.law_stuck_named.specs.Closing.{WaitsForOthers, is_kept_back};
 ghost use Rattle.law_stuck_named.specs.Owners.{DpcsRun, QueuesLive, StepsMayRun, WorkMayRun};
 
-/// At each place of every run of a resolved plan, a queue in which a request waits, or from which one returns, is live.
+/// At each place of every run of a resolved plan, a queue in which a request waits, or to which one returns, is live.
 pub fn queues_of_requests_are_live<A>()
     ensures { (plan : Plan) (m : Meaning A) (run : List Event) → IsResolved plan → IsRunOf plan m run → (n : ℕ) → QueuesLive (state_after plan m (take n run)) }
 {}

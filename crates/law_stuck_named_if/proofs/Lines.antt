@@ -12,7 +12,7 @@ use Rattle.wdf_base.specs.declared.event.Stage.TheVariants as stage
 use Rattle.wdf_base.specs.declared.event.Step.{Step}
 use Rattle.wdf_base.specs.declared.event.Step.TheVariants as step
 use Rattle.wdf_base.specs.declared.wait.WaitLine.{WaitLine}
-use Rattle.wdf_base.specs.Places.{is_queued_in, is_returning_from}
+use Rattle.wdf_base.specs.Places.{is_queued_in, is_returning_to}
 use Rattle.wdf_model.specs.Tables.{contains, flag, ids_of}
 use Rattle.wdf_model.specs.parts.Cpus.{all_frames}
 use Rattle.wdf_model.specs.parts.Queues.{held_count, waiting_in}
@@ -112,7 +112,7 @@ request_named plan m S k r (place.Queued q) e = λ live.
     let it : flag (is_queued_in q.0 (place.Queued q)) ≡ 1 = ap flag (itself q.0) in
     queued_waits plan m S k.rest q.0 r (listed r (waiting_in S.queues q.0) (omega arith)) live (queued_suits plan (TakesForm plan) S.requests q.0 r k.forms.1 (ap (is_queued_in q.0) e ∙ itself q.0)) none)
 request_named plan m S k r (place.Returning q) e = λ live.
-    some_or (returning_cause plan S q.0) (λ none. returning_waits plan m S k.rest k.declared q.0 r (ap (is_returning_from q.0) e ∙ itself q.0) live (returning_suits plan (TakesForm plan) S.requests q.0 r k.forms.1 (ap (is_returning_from q.0) e ∙ itself q.0)).1 none)
+    some_or (returning_cause plan S q.0) (λ none. returning_waits plan m S k.rest k.declared q.0 r (ap (is_returning_to q.0) e ∙ itself q.0) live (returning_suits plan (TakesForm plan) S.requests q.0 r k.forms.1 (ap (is_returning_to q.0) e ∙ itself q.0)).1 none)
 request_named plan m S k r _ e = tt
 
 next_named : {A : Type 0} (plan : Plan) (m : Meaning A) (S : State A) → AtEnd plan m S → (d : ℕ) (s : Step) → d < declared_end plan → next_step S.pnp d ≡ Some s → is_running_step S.pnp d ≡ false → follows_queues_up S.pnp d ≡ false → StepMayCome plan S d s

@@ -19,7 +19,7 @@ use Rattle.wdf_base.specs.Kinds.{declared_kind}
 use Rattle.wdf_base.specs.Plan.{declared_of}
 use Rattle.wdf_base.specs.Same.{same_callback, same_kind, same_option}
 use Rattle.wdf_base.specs.Lives.{is_live}
-use Rattle.wdf_base.specs.Places.{is_returning_from}
+use Rattle.wdf_base.specs.Places.{is_returning_to}
 use Rattle.wdf_model.specs.declared.entries.Request.{Request}
 use Rattle.wdf_model.specs.declared.enums.Group.TheVariants as group
 use Rattle.law_machine_base.specs.OverRuns.{DeclaredAgree, is_declared_kind}
@@ -200,7 +200,7 @@ queued_waits plan m S rest q r waits queue taken h =
 is_none_end : (plan : Plan) (q : ℕ) → is_some (declared_of plan q) ≡ true → Has q (declared_ids plan)
 is_none_end plan q h = let inside : q < declared_end plan = declared_within plan q h in has_range q 0 (declared_end plan) (omega arith) (omega arith)
 
-place_there : (q : ℕ) (xs : List Request) (r : ℕ) → is_returning_from q (entry no_request xs r).place ≡ true → r < length xs
+place_there : (q : ℕ) (xs : List Request) (r : ℕ) → is_returning_to q (entry no_request xs r).place ≡ true → r < length xs
 place_there q [] r h = absurd (let z : ⊥ = cc in z)
 place_there q (x ∷ xs) zero h = omega arith
 place_there q (x ∷ xs) (suc r) h = let rest : r < length xs = place_there q xs r h in omega arith
@@ -221,7 +221,7 @@ queue_there plan S q d is =
     some_of None h = absurd (let z : ⊥ = cc in z)
     some_of (Some x) h = refl
 
-pub returning_waits : {A : Type 0} (plan : Plan) (m : Meaning A) (S : State A) → AtRest plan m S true → DeclaredAgree plan S → (q r : ℕ) → is_returning_from q (place_of S.requests r) ≡ true → is_live_queue S q ≡ true → declares plan callback.EvtIoCanceledOnQueue q ≡ true → returning_cause plan S q ≡ None → ⊥
+pub returning_waits : {A : Type 0} (plan : Plan) (m : Meaning A) (S : State A) → AtRest plan m S true → DeclaredAgree plan S → (q r : ℕ) → is_returning_to q (place_of S.requests r) ≡ true → is_live_queue S q ≡ true → declares plan callback.EvtIoCanceledOnQueue q ≡ true → returning_cause plan S q ≡ None → ⊥
 returning_waits plan m S rest d q r returns queue declared h =
     let one = none_first (cause_if (queue_scope_held plan S q) cause.ScopeHeld) (cause_if (no_cpu plan S (queue_level plan q)) cause.NoCpu ∷ []) h in
     let two = none_first (cause_if (no_cpu plan S (queue_level plan q)) cause.NoCpu) [] one.1 in
@@ -240,6 +240,6 @@ returning_waits plan m S rest d q r returns queue declared h =
     let comes : may plan m S e ≡ true =
     all_four (nat_lt left.0 plan.cpus) (is_proper plan S (handle_in plan S q)) (is_proper plan S (handle_in plan S r)) (may_start plan m S left.0 callback.EvtIoCanceledOnQueue q (Some (handle_in plan S r)))
     (below_cpus left.0 plan.cpus within) (itself (handle_in plan S q).name) (itself (handle_in plan S r).name)
-    (five (declares_in plan S callback.EvtIoCanceledOnQueue q) (is_live (life_of S.tree q)) (level_fits S left.0 (queue_level plan q)) (is_open_to plan S q) (is_returning_from q (place_of S.requests r))
+    (five (declares_in plan S callback.EvtIoCanceledOnQueue q) (is_live (life_of S.tree q)) (level_fits S left.0 (queue_level plan q)) (is_open_to plan S q) (is_returning_to q (place_of S.requests r))
     (queue_has plan S callback.EvtIoCanceledOnQueue q is declared) live left.2 unlocked returns) in
     let z : ⊥ = cc in z

@@ -14,7 +14,7 @@ use Rattle.wdf_model.specs.declared.entries.SentRequest.{SentRequest}
 use Rattle.wdf_model.specs.rules.Ready.{IsRunOf, state_after}
 use Rattle.wdf_model.proofs.Runs.{take_ended, take_next}
 use Rattle.wdf_model.proofs.Tests.{either_false}
-use Rattle.wdf_model.specs.agents.AnyAgent.{agent_meaning}
+use Rattle.wdf_dev.specs.Agents.{agent_meaning}
 use Rattle.law_idle.specs.Idling.{time_after, time_step}
 use Rattle.law_idle.proofs.Meters.{is_tick}
 use Rattle.law_machine_lives.proofs.Lists.{Each, each_behind, each_kept, each_still}

@@ -31,8 +31,9 @@ use Rattle.wdf_model.proofs.Counts.{equal}
 use Rattle.wdf_model.proofs.Runs.{run_front}
 use Rattle.wdf_model.proofs.Sames.{handle_decides, status_decides}
 use Rattle.wdf_model.proofs.Tests.{in_filter}
-use Rattle.wdf_model.specs.agents.AnyAgent.{AnyAgent, agent_meaning}
-use Rattle.wdf_model.specs.agents.AnyAgent as agent
+use Rattle.wdf_dev.specs.Agents.{agent_meaning}
+use Rattle.wdf_dev.specs.declared.any.AnyAgent.{AnyAgent}
+use Rattle.wdf_dev.specs.declared.any.AnyAgent.TheVariants as agent
 use Rattle.law_at_rest.proofs.Proper.{IsFine, all_fine, each_there}
 use Rattle.law_at_rest.proofs.Targets.{waits_undone}
 use Rattle.law_machine_base.specs.OverRuns.{PlacesAgree}

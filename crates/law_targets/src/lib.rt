@@ -26,9 +26,9 @@ ghost use Rattle.wdf_base.specs.declared.event.Post.TheVariants as post;
 ghost use Rattle.wdf_model.specs.Plans.{target_of_agent};
 ghost use Rattle.wdf_model.specs.agents.Chains.{connected_to};
 ghost use Rattle.wdf_model.specs.rules.Ready.{IsRunOf, state_after};
-ghost use Rattle.wdf_model.specs.agents.AnyAgent.{agent_meaning};
-ghost use Rattle.wdf_model.specs.agents.IdleAgent.{idle_meaning};
-ghost use Rattle.wdf_model.specs.agents.StackAgent.{stack_meaning};
+ghost use Rattle.wdf_dev.specs.Agents.{agent_meaning};
+ghost use Rattle.wdf_idle.specs.Agents.{idle_meaning};
+ghost use Rattle.wdf_stack.specs.Agents.{stack_meaning};
 ghost use Rattle.law_idle.specs.Idling.{time_after};
 ghost use Rattle.law_targets.specs.Targets.{IsAt, IsNotDue, IsTargetAgent, MayBeDone, delay_of, depth_of, is_done_by, sends};
 

@@ -18,7 +18,7 @@ use Rattle.wdf_tokens.proofs.LexedTokens.{read_fit}
 use Rattle.wdf_scene_lines.specs.Building.{next_node}
 use Rattle.wdf_scene_lines.specs.Reading.{read_written}
 use Rattle.wdf_scene_lines.proofs.LineSoundness.{read_spelled}
-use Rattle.wdf_parse.specs.SoFar.{TextSoFar}
+use Rattle.wdf_parse.specs.declared.reader.Reader.{Reader}
 use Rattle.wdf_parse.specs.declared.refusal.ParseRefusal.{ParseRefusal}
 use Rattle.wdf_parse.specs.declared.refusal.ParseRefusal.TheVariants as refusal
 use Rattle.wdf_parse.specs.Standing.{first_number}
@@ -30,7 +30,7 @@ use Rattle.law_text.proofs.Readers.{after_append, stands_same, IsReader, read_li
 
 -- ---- a line that fails ends the reading
 
-line_ends : (text : List ℕ) (number : ℕ) (h : HasLine text number) (now : TextSoFar) (e : ParseRefusal) → IsReader h.before h.read now → after_line now number h.line ≡ Err e → reading text ≡ Err e
+line_ends : (text : List ℕ) (number : ℕ) (h : HasLine text number) (now : Reader) (e : ParseRefusal) → IsReader h.before h.read now → after_line now number h.line ≡ Err e → reading text ≡ Err e
 unfolding reading
 line_ends text number h now e i g =
     let count : 1 + length h.before ≡ number = omega (arith, h.counted) in
@@ -50,7 +50,7 @@ plain_reading line f h e =
     let is : list_all is_plain line ≡ true = h in
     ap (λ t. cond t (tokens_from 1 0 line) (Err fault.NotAscii)) is ∙ e
 
-fault_fails : (now : TextSoFar) (number : ℕ) (line : List ℕ) (f : TokenFault) → line_reading line ≡ Err f → after_line now number line ≡ Err (refused number f)
+fault_fails : (now : Reader) (number : ℕ) (line : List ℕ) (f : TokenFault) → line_reading line ≡ Err f → after_line now number line ≡ Err (refused number f)
 unfolding after_line
 fault_fails now number line f e = ap (after_tokens now number) e
 
@@ -69,11 +69,11 @@ no_mark : (a b : Bool) → (a ≡ true → b ≡ false) → (a && b) ≡ false
 no_mark true b f = f refl
 no_mark false b f = refl
 
-not_read : (now : TextSoFar) (number : ℕ) (ts : List Token) (o : Option Written) → read_written ts ≡ o → ((w : Written) → read_written ts ≡ Some w → may_stand now.place.position (line_at (next_node now.builder) w) ≡ false) → line_taken now number o ≡ None
+not_read : (now : Reader) (number : ℕ) (ts : List Token) (o : Option Written) → read_written ts ≡ o → ((w : Written) → read_written ts ≡ Some w → may_stand now.place.position (line_at (next_node now.builder) w) ≡ false) → line_taken now number o ≡ None
 not_read now number ts None is f = refl
 not_read now number ts (Some w) is f = ap (λ t. cond t (Some (with_written now number w)) None) (f w is)
 
-line_fails : (text : List ℕ) (number : ℕ) (b : HasBadLine text number) (now : TextSoFar) → IsReader b.at.before b.at.read now → tokens_taken now number b.tokens ≡ None
+line_fails : (text : List ℕ) (number : ℕ) (b : HasBadLine text number) (now : Reader) → IsReader b.at.before b.at.read now → tokens_taken now number b.tokens ≡ None
 line_fails text number b now i =
     let ts = b.tokens in
     let mark : (is_version ts && is_at_front now.place.position) ≡ false = no_mark (is_version ts) (is_at_front now.place.position) (λ v. ap is_at_front i.position ∙ b.no_version (version_only ts v)) in
@@ -82,22 +82,22 @@ line_fails text number b now i =
     stands_same now.place.position w (next_node now.builder) 0 ∙ (ap (λ p. may_stand p (line_at 0 w)) i.position ∙ b.none w s.written s.tokens)) in
     ap (λ t. cond t (Some (opening 2)) (line_taken now number (read_written ts))) mark ∙ none
 
-filled_fails : (now : TextSoFar) (number : ℕ) (line : List ℕ) (ts : List Token) → line_reading line ≡ Ok ts → 0 < length ts → tokens_taken now number ts ≡ None → after_line now number line ≡ Err (refusal.BadLine number)
+filled_fails : (now : Reader) (number : ℕ) (line : List ℕ) (ts : List Token) → line_reading line ≡ Ok ts → 0 < length ts → tokens_taken now number ts ≡ None → after_line now number line ≡ Err (refusal.BadLine number)
 unfolding after_line
 filled_fails now number line [] is h e = absurd (omega arith)
 filled_fails now number line (t ∷ ts) is h e = ap (after_tokens now number) is ∙ ap (or_bad_line number) e
 
 -- ---- the end of the text
 
-ends_as : (text : List ℕ) (now : TextSoFar) (r : AreRead (lines_of text)) → IsReader (lines_of text) r now → reading text ≡ at_end (length (lines_of text) + 1) now
+ends_as : (text : List ℕ) (now : Reader) (r : AreRead (lines_of text)) → IsReader (lines_of text) r now → reading text ≡ at_end (length (lines_of text) + 1) now
 unfolding reading
 ends_as text now r i = ap (finished (length (lines_of text) + 1)) i.gives
 
-early_end : (past : ℕ) (now : TextSoFar) → (now.place.position.headers == 3) ≡ false → at_end past now ≡ Err (refusal.BadLine past)
+early_end : (past : ℕ) (now : Reader) → (now.place.position.headers == 3) ≡ false → at_end past now ≡ Err (refusal.BadLine past)
 early_end past now e =
     ap (λ t. cond t (closed (first_number now.place.openers) now.builder) (Err (refusal.BadLine past))) e
 
-inside_end : (past opener : ℕ) (now : TextSoFar) → (now.place.position.headers == 3) ≡ true → first_number now.place.openers ≡ Some opener → at_end past now ≡ Err (refusal.Unclosed opener)
+inside_end : (past opener : ℕ) (now : Reader) → (now.place.position.headers == 3) ≡ true → first_number now.place.openers ≡ Some opener → at_end past now ≡ Err (refusal.Unclosed opener)
 inside_end past opener now e f =
     ap (λ t. cond t (closed (first_number now.place.openers) now.builder) (Err (refusal.BadLine past))) e ∙ ap (λ o. closed o now.builder) f
 

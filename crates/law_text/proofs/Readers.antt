@@ -6,7 +6,7 @@ use Rattle.wdf_scene.specs.Blocks.{Position, may_stand, openers_after}
 use Rattle.wdf_scene.specs.Blocks as blocks
 use Rattle.wdf_scene.specs.Written.{Written, Single, WrittenLine, line_at, lines_at, head_line, written_size}
 use Rattle.wdf_scene_lines.specs.Building.{next_node}
-use Rattle.wdf_parse.specs.SoFar.{TextSoFar}
+use Rattle.wdf_parse.specs.declared.reader.Reader.{Reader}
 use Rattle.wdf_parse.specs.declared.refusal.ParseRefusal.{ParseRefusal}
 use Rattle.wdf_parse.specs.Texts.{opening, with_written, after_line, after_lines}
 use Rattle.wdf_parse.proofs.Built.{adds, all_written}
@@ -16,7 +16,7 @@ use Rattle.law_text.specs.FirstRefusal.{openers_from, AreRead, open_lines}
 
 -- ---- lines in turn
 
-pub after_append : (r : Result TextSoFar ParseRefusal) (n : ℕ) (xs ys : List (List ℕ)) → after_lines r n (xs ++ ys) ≡ after_lines (after_lines r n xs) (n + length xs) ys
+pub after_append : (r : Result Reader ParseRefusal) (n : ℕ) (xs ys : List (List ℕ)) → after_lines r n (xs ++ ys) ≡ after_lines (after_lines r n xs) (n + length xs) ys
 after_append (Err e) n [] ys = refl
 after_append (Err e) n (x ∷ xs) ys = refl
 after_append (Ok r) n [] ys = let e : n ≡ n + 0 = omega arith in ap (λ m. after_lines (Ok r) m ys) e
@@ -44,10 +44,10 @@ openers_same openers number (Single h t) a b = head_openers openers number h _ _
 openers_same openers number _ a b = refl
 
 -- the blocks that lines open, whatever the numbers of their nodes
-taken_openers : (ws : List WrittenLine) (r now : TextSoFar) (base : ℕ) → taken_by (Some r) ws ≡ Some now → now.place.openers ≡ openers_from r.place.openers (lines_at base ws)
+taken_openers : (ws : List WrittenLine) (r now : Reader) (base : ℕ) → taken_by (Some r) ws ≡ Some now → now.place.openers ≡ openers_from r.place.openers (lines_at base ws)
 taken_openers [] r now base e =
     let same : r ≡ now = cc in
-    ap (λ (x : TextSoFar). x.place.openers) (sym same)
+    ap (λ (x : Reader). x.place.openers) (sym same)
 taken_openers (w ∷ ws) r now base e = by_stand (may_stand r.place.position (line_at (next_node r.builder) w.written)) e (taken_openers ws (with_written r w.number w.written) now (base + written_size w.written))
   where
     by_stand : (b : Bool) → taken_by (cond b (Some (with_written r w.number w.written)) None) ws ≡ Some now → (taken_by (Some (with_written r w.number w.written)) ws ≡ Some now → now.place.openers ≡ openers_from (with_written r w.number w.written).place.openers (lines_at (base + written_size w.written) ws)) → now.place.openers ≡ openers_from (openers_after r.place.openers w.number (line_at base w.written)) (lines_at (base + written_size w.written) ws)
@@ -56,17 +56,17 @@ taken_openers (w ∷ ws) r now base e = by_stand (may_stand r.place.position (li
         f h ∙ ap (λ os. openers_from os (lines_at (base + written_size w.written) ws)) (openers_same r.place.openers w.number w.written (next_node r.builder) base)
 
 -- a reader after lines that are read
-pub record IsReader (lines : List (List ℕ)) (r : AreRead lines) (now : TextSoFar) : Type 0 where
+pub record IsReader (lines : List (List ℕ)) (r : AreRead lines) (now : Reader) : Type 0 where
   pub gives : after_lines (Ok (opening 1)) 1 lines ≡ Ok now
   pub position : now.place.position ≡ r.position
   pub openers : now.place.openers ≡ open_lines lines r
 
 -- what is taken is read
-pub record TakenLines (lines : List (List ℕ)) (now : TextSoFar) : Type 0 where
+pub record TakenLines (lines : List (List ℕ)) (now : Reader) : Type 0 where
   pub read : AreRead lines
   pub reader : IsReader lines read now
 
-pub taken_lines : (lines : List (List ℕ)) (now : TextSoFar) → after_lines (Ok (opening 1)) 1 lines ≡ Ok now → TakenLines lines now
+pub taken_lines : (lines : List (List ℕ)) (now : Reader) → after_lines (Ok (opening 1)) 1 lines ≡ Ok now → TakenLines lines now
 taken_lines lines now e =
     let h = front_history lines 1 now e in
     let a = adds h.ws now (opening h.version) h.taken in
@@ -86,7 +86,7 @@ taken_lines lines now e =
 
 -- and what is read is taken
 pub record ReadLines (lines : List (List ℕ)) (r : AreRead lines) : Type 0 where
-  pub now : TextSoFar
+  pub now : Reader
   pub reader : IsReader lines r now
 
 pub read_lines : (lines : List (List ℕ)) (r : AreRead lines) → ReadLines lines r

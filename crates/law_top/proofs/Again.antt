@@ -10,7 +10,7 @@ use Rattle.wdf_refusals.specs.First.{first_refusal}
 use Rattle.wdf_plan.specs.Plans.{plan_of}
 use Rattle.wdf_model.specs.rules.Ready.{IsPickedRun, ending_of, ready}
 use Rattle.wdf_model.proofs.Runs.{picked_once}
-use Rattle.wdf_model.specs.agents.AnyAgent.{agent_meaning}
+use Rattle.wdf_dev.specs.Agents.{agent_meaning}
 use Rattle.wdf_output.specs.Endings.{status_of}
 use Rattle.wdf_output.specs.Said.{Sinking}
 use Rattle.wdf_run.specs.Seeds.{seed_words}

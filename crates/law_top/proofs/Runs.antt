@@ -6,7 +6,7 @@ use Rattle.wdf_parse.specs.StandsFor.{StandsFor}
 use Rattle.wdf_parse.proofs.Uniqueness.{one_stands}
 use Rattle.wdf_plan.specs.Plans.{plan_of}
 use Rattle.wdf_model.specs.rules.Ready.{ending_of}
-use Rattle.wdf_model.specs.agents.AnyAgent.{agent_meaning}
+use Rattle.wdf_dev.specs.Agents.{agent_meaning}
 use Rattle.wdf_run_text.specs.Texts.{text_of}
 use Rattle.wdf_split.specs.Inputs.{scenario_in}
 use Rattle.wdf_output.specs.Said.{Sinking}

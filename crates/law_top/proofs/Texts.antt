@@ -9,7 +9,7 @@ use Rattle.wdf_parse.proofs.Uniqueness.{one_stands}
 use Rattle.wdf_refusals.specs.First.{first_refusal}
 use Rattle.wdf_plan.specs.Plans.{plan_of}
 use Rattle.wdf_io.specs.Outside.{Gains}
-use Rattle.wdf_model.specs.agents.AnyAgent.{agent_meaning}
+use Rattle.wdf_dev.specs.Agents.{agent_meaning}
 use Rattle.wdf_output.specs.Said.{Sinking}
 use Rattle.wdf_run_text.specs.Lines.{joined_lines, trace_lines}
 use Rattle.wdf_run_text.specs.Texts.{text_of}

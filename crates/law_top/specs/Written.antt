@@ -8,7 +8,7 @@ use Rattle.wdf_parse.specs.StandsFor.{StandsFor}
 use Rattle.wdf_io.specs.Outside.{Gains}
 use Rattle.wdf_model.specs.rules.Ready.{state_after}
 use Rattle.wdf_output.specs.Said.{Sinking}
-use Rattle.wdf_model.specs.agents.AnyAgent.{agent_meaning}
+use Rattle.wdf_dev.specs.Agents.{agent_meaning}
 use Rattle.wdf_top.specs.Agents.{RunAgents, Usual, meaning_of}
 use Rattle.wdf_top.specs.Answers.{Picking}
 use Rattle.wdf_top.specs.Causes.{WroteAccepted}

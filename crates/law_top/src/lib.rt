@@ -8,7 +8,7 @@ ghost use Rattle.wdf_scene.specs.declared.scene.Scene.{Scene};
 ghost use Rattle.wdf_parse.specs.Canonical.{canonical_text};
 ghost use Rattle.wdf_parse.specs.StandsFor.{StandsFor};
 ghost use Rattle.wdf_refusals.specs.First.{first_refusal};
-ghost use Rattle.wdf_model.specs.agents.AnyAgent.{agent_meaning};
+ghost use Rattle.wdf_dev.specs.Agents.{agent_meaning};
 ghost use Rattle.wdf_run_text.specs.Texts.{text_of};
 ghost use Rattle.wdf_split.specs.Inputs.{scenario_in, trace_in};
 ghost use Rattle.wdf_output.specs.Said.{Sinking};

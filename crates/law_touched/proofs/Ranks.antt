@@ -15,7 +15,7 @@ use Rattle.wdf_base.specs.declared.event.Event.{Event}
 use Rattle.wdf_base.specs.declared.event.Step.{Step}
 use Rattle.wdf_base.specs.declared.event.Step.TheVariants as step
 use Rattle.wdf_base.specs.Callbacks.{dpc_function, row_of}
-use Rattle.wdf_base.specs.Places.{is_due, is_returning_from, is_sent_to}
+use Rattle.wdf_base.specs.Places.{is_due, is_returning_to, is_sent_to}
 use Rattle.wdf_base.specs.Same.{same_option, same_step}
 use Rattle.wdf_model.specs.Plans.{declares, handler_for, interrupt_of, queue_of, typed_handler}
 use Rattle.wdf_model.specs.Tables.{same_id}
@@ -152,7 +152,7 @@ module _ {A : Type 0} (plan : Plan) (m : Meaning A) (S T : State A) (cpu : ℕ) 
           ∙ chained_alike plan m S T (handler_start plan S cpu k) (handler_start plan T cpu k) (front T.queues k) (λ r at. handler_one k r)
 
     pub canceled : (o k : ℕ) → Alike (start_for plan S cpu rank.CanceledOnQueue o k) (start_for plan T cpu rank.CanceledOnQueue o k)
-    canceled o k = for_here callback.EvtIoCanceledOnQueue o k (λ i. is_returning_from o (place_of (requests i) k))
+    canceled o k = for_here callback.EvtIoCanceledOnQueue o k (λ i. is_returning_to o (place_of (requests i) k))
 
     module _ (targets : S.targets ≡ T.targets) where
       pub completed : (o r : ℕ) → Alike (Some (starts_for plan S cpu callback.EvtRequestCompletion o r)) (Some (starts_for plan T cpu callback.EvtRequestCompletion o r))

@@ -53,7 +53,7 @@ use Rattle.wdf_laws.specs.declared.sign.Sign.TheVariants as sign
 use Rattle.wdf_laws.specs.declared.sign.Told.{Told}
 use Rattle.wdf_laws.specs.Events.{argument_object, brought_to, completed, destroyed, id_in, is_id, is_there, or_none, told, told_of, where_so}
 use Rattle.wdf_laws.specs.Family.{first_told}
-use Rattle.wdf_laws.specs.Laws.{completes_once, ends_after_requests, is_completed, is_settled, completed_once}
+use Rattle.wdf_laws.specs.Laws.{completes_once, ends_after_requests, is_completed, is_settled, law_1}
 use Rattle.wdf_laws.specs.Signs.{shows}
 use Rattle.wdf_laws.specs.Words.{ever}
 use Rattle.law_trace_once.proofs.Words.{ever_next, never_yet}
@@ -281,6 +281,6 @@ after_requests plan m run k (event.Destroy o) is_run at =
     all_by (is_settled (take k run) o.id.0) (take k run) (λ j e here. let p = in_front run k j e here in settled_event plan m run k j o e is_run at p.0 p.1)
 after_requests plan m run k _ is_run at = refl
 
-pub completed_once_at_each : {A : Type 0} (plan : Plan) (m : Meaning A) (run : List Event) (k : ℕ) (e : Event) → IsRunOf plan m run → slice_get run k ≡ Some e → completed_once (take k run) e ≡ true
-completed_once_at_each plan m run k e is_run at =
+pub law_1_at_each : {A : Type 0} (plan : Plan) (m : Meaning A) (run : List Event) (k : ℕ) (e : Event) → IsRunOf plan m run → slice_get run k ≡ Some e → law_1 (take k run) e ≡ true
+law_1_at_each plan m run k e is_run at =
     both (completes_once (take k run) (completed e)) (ends_after_requests (take k run) (destroyed e)) (completes_at_each plan m run k e is_run at) (after_requests plan m run k e is_run at)

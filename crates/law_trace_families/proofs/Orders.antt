@@ -32,7 +32,7 @@ use Rattle.wdf_laws.specs.declared.sign.Told.{Told}
 use Rattle.wdf_laws.specs.Events.{told}
 use Rattle.wdf_laws.specs.Family.{cleaned_above, first_told, most_above, tells_of}
 use Rattle.wdf_laws.specs.Family as law
-use Rattle.wdf_laws.specs.Laws.{declared_ended, ends_well, is_ended_at, is_ended_child, is_ended_told, quiet_after_cleanup, ended_once}
+use Rattle.wdf_laws.specs.Laws.{declared_ended, ends_well, is_ended_at, is_ended_child, is_ended_told, law_3, law_9}
 use Rattle.wdf_laws.specs.Signs.{shows}
 use Rattle.wdf_laws.specs.Words.{ever, times}
 use Rattle.law_trace_once.proofs.Words.{ever_next, never_yet}
@@ -220,18 +220,18 @@ none_above plan all before closed (suc n) o h =
           (none_above plan all before closed n p (false_from_ne_true (ever (sign.Cleaned p) before) (λ yes. let on_ = closed o some_ yes in let z : ⊥ = cc in z)))
     ])
 
-quiet_after_cleanup_by : {A : Type 0} (plan : Plan) (m : Meaning A) (run : List Event) (k : ℕ) (e : Event) → IsRunOf plan m run → slice_get run k ≡ Some e → quiet_after_cleanup plan run (take k run) e ≡ true
-quiet_after_cleanup_by plan m run k (event.Start cpu c o r) is_run at = elim (cases_Bool (same_callback c callback.EvtDestroyCallback)) [
+law_3_by : {A : Type 0} (plan : Plan) (m : Meaning A) (run : List Event) (k : ℕ) (e : Event) → IsRunOf plan m run → slice_get run k ≡ Some e → law_3 plan run (take k run) e ≡ true
+law_3_by plan m run k (event.Start cpu c o r) is_run at = elim (cases_Bool (same_callback c callback.EvtDestroyCallback)) [
   | inl it ↦ left_holds (same_callback c callback.EvtDestroyCallback) (not (cleaned_above plan run (take k run) (most_above plan run) o.id.0)) it
   | inr other ↦
       let early : ever (sign.Cleaned o.id.0) (take k run) ≡ false = begins_early plan m run k cpu c o r is_run at other in
       second (same_callback c callback.EvtDestroyCallback) (not (cleaned_above plan run (take k run) (most_above plan run) o.id.0))
       (ap not (none_above plan run (take k run) (closed_at plan m run is_run k) (most_above plan run) o.id.0 early))
 ]
-quiet_after_cleanup_by plan m run k _ is_run at = refl
+law_3_by plan m run k _ is_run at = refl
 
-pub quiet_after_cleanup_at_each : {A : Type 0} (plan : Plan) (m : Meaning A) (run : List Event) (k : ℕ) (e : Event) → IsRunOf plan m run → slice_get run k ≡ Some e → quiet_after_cleanup plan run (take k run) e ≡ true
-quiet_after_cleanup_at_each plan m run k e is_run at = quiet_after_cleanup_by plan m run k e is_run at
+pub law_3_at_each : {A : Type 0} (plan : Plan) (m : Meaning A) (run : List Event) (k : ℕ) (e : Event) → IsRunOf plan m run → slice_get run k ≡ Some e → law_3 plan run (take k run) e ≡ true
+law_3_at_each plan m run k e is_run at = law_3_by plan m run k e is_run at
 
 -- ---- an object ends after its children
 
@@ -322,6 +322,6 @@ ends_well_at plan m run k o is_run at =
     (all_by (is_ended_at plan run (take k run) o.id.0) run (λ j e here. told_child plan m run k o is_run at j e here (told plan e) refl)))
     (equal (times (sign.Dereferenced o.id.0) (take k run)) (times (sign.Referenced o.id.0) (take k run)) (ends_balanced plan m run k o is_run at))
 
-pub ended_once_at_each : {A : Type 0} (plan : Plan) (m : Meaning A) (run : List Event) (k : ℕ) (e : Event) → IsRunOf plan m run → slice_get run k ≡ Some e → ended_once plan run (take k run) e ≡ true
-ended_once_at_each plan m run k (event.Destroy o) is_run at = ends_well_at plan m run k o is_run at
-ended_once_at_each plan m run k _ is_run at = refl
+pub law_9_at_each : {A : Type 0} (plan : Plan) (m : Meaning A) (run : List Event) (k : ℕ) (e : Event) → IsRunOf plan m run → slice_get run k ≡ Some e → law_9 plan run (take k run) e ≡ true
+law_9_at_each plan m run k (event.Destroy o) is_run at = ends_well_at plan m run k o is_run at
+law_9_at_each plan m run k _ is_run at = refl

@@ -7,7 +7,7 @@ use Rattle.wdf_base.specs.declared.object.Place.TheVariants as place
 use Rattle.wdf_base.specs.declared.object.RequestInfo.{RequestInfo}
 use Rattle.wdf_base.specs.declared.value.Status.TheVariants as status
 use Rattle.wdf_base.specs.declared.event.Event.{Event}
-use Rattle.wdf_base.specs.Places.{is_done, is_marked, is_returning_from}
+use Rattle.wdf_base.specs.Places.{is_done, is_marked, is_returning_to}
 use Rattle.wdf_model.specs.declared.enums.Mode.TheVariants as mode
 use Rattle.wdf_model.specs.declared.entries.Request.{Request}
 use Rattle.wdf_model.specs.Plans.{managed_queues, queues_of}
@@ -18,7 +18,7 @@ use Rattle.wdf_model.specs.parts.Queues.{waiting_in}
 use Rattle.wdf_model.specs.parts.Queues as queues
 use Rattle.wdf_model.specs.parts.Control as control
 use Rattle.wdf_model.specs.parts.Targets.{is_forgotten}
-use Rattle.wdf_model.specs.State.{State, returns_from, withdrawn_place}
+use Rattle.wdf_model.specs.State.{State, returns_to, withdrawn_place}
 use Rattle.wdf_model.specs.declared.deed.Deed.{Deed}
 use Rattle.wdf_model.specs.declared.deed.Deed.TheVariants.{MakeRequest, Arrive, AskDeletion, EndLife, Present, Receive, Requeue, Forward, GiveBack, Withdraw, MarkRequest, UnmarkRequest, CancelRequest, TakeCancel, SendRequest, FinishSending, ComeBack, CompleteRequest, PurgeQueue, CloseReturning, CloseDevice}
 use Rattle.wdf_model.specs.rules.Deeds.{cancel_in, close_queue, close_returning, do_deed, do_deeds, finished_at, give_up, give_up_if, queued, withdraw}
@@ -90,7 +90,7 @@ withdrawn plan S q r false = refl
 cancelled_in : {A : Type 0} (plan : Plan) (S : State A) (q r : ℕ) → WasFinished S.requests (cancel_in plan S q r).requests
 cancelled_in plan S q r =
     was_then S.requests (requests.cancel S.requests r) (cancel_in plan S q r).requests (changed S.requests r cancelled (λ h. h))
-    (moved_to (requests.cancel S.requests r) r (withdrawn_place plan S q r) (withdrawn plan S q r ((info_of S.requests r).received && returns_from plan S q)))
+    (moved_to (requests.cancel S.requests r) r (withdrawn_place plan S q r) (withdrawn plan S q r ((info_of S.requests r).received && returns_to plan S q)))
 
 all_withdrawn : {A : Type 0} (plan : Plan) (q : ℕ) (rs : List ℕ) (S : State A) → WasFinished S.requests (fold (withdraw plan q) S rs).requests
 all_withdrawn plan q [] S = λ x h. h
@@ -109,7 +109,7 @@ closed_all here R off x h =
 
 all_returning : {A : Type 0} (qs : List ℕ) (S : State A) → WasFinished S.requests (fold close_returning S qs).requests
 all_returning [] S = λ x h. h
-all_returning (q ∷ qs) S = was_then S.requests (close_returning S q).requests (fold close_returning (close_returning S q) qs).requests (closed_all (is_returning_from q) S.requests refl) (all_returning qs (close_returning S q))
+all_returning (q ∷ qs) S = was_then S.requests (close_returning S q).requests (fold close_returning (close_returning S q) qs).requests (closed_all (is_returning_to q) S.requests refl) (all_returning qs (close_returning S q))
 
 all_closed : {A : Type 0} (qs : List ℕ) (S : State A) → WasFinished S.requests (fold close_queue S qs).requests
 all_closed [] S = λ x h. h

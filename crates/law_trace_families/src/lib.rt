@@ -7,7 +7,7 @@ ghost use Rattle.wdf_base.specs.Meaning.{Meaning};
 ghost use Rattle.wdf_base.specs.declared.plan.Plan.{Plan};
 ghost use Rattle.wdf_base.specs.declared.event.Event.{Event};
 ghost use Rattle.wdf_model.specs.rules.Ready.{IsRunOf, state_after};
-ghost use Rattle.wdf_laws.specs.Laws.{completed_once, quiet_after_cleanup, ended_once};
+ghost use Rattle.wdf_laws.specs.Laws.{law_1, law_3, law_9};
 ghost use Rattle.law_trace_families.specs.Family.{ClassesAgree, FamilyAgrees};
 
 /// At each place of every run, what the plan and the events before say of an object's parent is what the tree has,
@@ -26,20 +26,20 @@ pub fn runs_tell_classes<A>()
 
 /// In every run, each event keeps the first law: a request is completed once, after it arrived, and a device ends after the
 /// completion of each request that arrived for it.
-#[tactic(auto, using(crate::proofs::Drained::completed_once_at_each))]
+#[tactic(auto, using(crate::proofs::Drained::law_1_at_each))]
 pub fn runs_end_after_requests<A>()
-    ensures { (plan : Plan) (m : Meaning A) (run : List Event) (k : ℕ) (e : Event) → IsRunOf plan m run → slice_get run k ≡ Some e → completed_once (take k run) e ≡ true }
+    ensures { (plan : Plan) (m : Meaning A) (run : List Event) (k : ℕ) (e : Event) → IsRunOf plan m run → slice_get run k ≡ Some e → law_1 (take k run) e ≡ true }
 {}
 
 /// In every run, each event keeps the third law: after the cleanup of an object nothing begins on it or below it but its
 /// destroy callback.
-#[tactic(auto, using(crate::proofs::Orders::quiet_after_cleanup_at_each))]
+#[tactic(auto, using(crate::proofs::Orders::law_3_at_each))]
 pub fn runs_begin_nothing_below<A>()
-    ensures { (plan : Plan) (m : Meaning A) (run : List Event) (k : ℕ) (e : Event) → IsRunOf plan m run → slice_get run k ≡ Some e → quiet_after_cleanup plan run (take k run) e ≡ true }
+    ensures { (plan : Plan) (m : Meaning A) (run : List Event) (k : ℕ) (e : Event) → IsRunOf plan m run → slice_get run k ≡ Some e → law_3 plan run (take k run) e ≡ true }
 {}
 
 /// In every run, each event keeps the ninth law: an object ends once, after its cleanup, its children and its references.
-#[tactic(auto, using(crate::proofs::Orders::ended_once_at_each))]
+#[tactic(auto, using(crate::proofs::Orders::law_9_at_each))]
 pub fn runs_end_after_children<A>()
-    ensures { (plan : Plan) (m : Meaning A) (run : List Event) (k : ℕ) (e : Event) → IsRunOf plan m run → slice_get run k ≡ Some e → ended_once plan run (take k run) e ≡ true }
+    ensures { (plan : Plan) (m : Meaning A) (run : List Event) (k : ℕ) (e : Event) → IsRunOf plan m run → slice_get run k ≡ Some e → law_9 plan run (take k run) e ≡ true }
 {}

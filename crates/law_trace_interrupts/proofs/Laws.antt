@@ -26,7 +26,7 @@ use Rattle.wdf_model.proofs.Tests.{both, first}
 use Rattle.law_machine_lives.proofs.Queued.{any_entry}
 use Rattle.law_machine_lives.proofs.SoundRuns.{KnownAll, all_known}
 use Rattle.wdf_laws.specs.Frames.{frames_after}
-use Rattle.wdf_laws.specs.Laws.{alone_row, enable_row, enabled_row, interrupt_rows, is_enabled_in_power, interrupts_while_enabled}
+use Rattle.wdf_laws.specs.Laws.{alone_row, enable_row, enabled_row, interrupt_rows, is_enabled_in_power, law_4}
 use Rattle.law_trace_families.proofs.Families.{family_at_each}
 use Rattle.law_trace_power.proofs.Isrs.{serves_at_each}
 use Rattle.law_trace_power.proofs.Laws.{comes_by, disables_at_each, enables_at_each, ready_at}
@@ -123,6 +123,6 @@ starts_by plan m run k resolved is_run cpu c o r (Some x) info at =
     (both (enabled_row plan (take k run) c o.id.0 x.device.0) (enable_row plan (take k run) c x.device.0) (enabled_row_is plan m run k resolved is_run cpu o r x info c at) (enable_row_is plan m run k resolved is_run cpu o r x info c at))
     (alone_at_each plan m run k cpu c o r x resolved is_run at info)
 
-pub interrupts_while_enabled_at_each : {A : Type 0} (plan : Plan) (m : Meaning A) (run : List Event) (k : ℕ) (e : Event) → IsResolved plan → IsRunOf plan m run → slice_get run k ≡ Some e → interrupts_while_enabled plan (take k run) (frames_after (take k run)) e ≡ true
-interrupts_while_enabled_at_each plan m run k (event.Start cpu c o r) resolved is_run at = starts_by plan m run k resolved is_run cpu c o r (interrupt_of plan o.id.0) refl at
-interrupts_while_enabled_at_each plan m run k _ resolved is_run at = refl
+pub law_4_at_each : {A : Type 0} (plan : Plan) (m : Meaning A) (run : List Event) (k : ℕ) (e : Event) → IsResolved plan → IsRunOf plan m run → slice_get run k ≡ Some e → law_4 plan (take k run) (frames_after (take k run)) e ≡ true
+law_4_at_each plan m run k (event.Start cpu c o r) resolved is_run at = starts_by plan m run k resolved is_run cpu c o r (interrupt_of plan o.id.0) refl at
+law_4_at_each plan m run k _ resolved is_run at = refl

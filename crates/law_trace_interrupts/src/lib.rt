@@ -13,7 +13,7 @@ ghost use Rattle.wdf_base.specs.declared.call.Callback.TheVariants as callback;
 ghost use Rattle.wdf_base.specs.declared.event.Event.{Event};
 ghost use Rattle.wdf_base.specs.declared.event.Event.TheVariants as event;
 ghost use Rattle.wdf_laws.specs.Frames.{frames_after};
-ghost use Rattle.wdf_laws.specs.Laws.{alone_row, is_enabled_in_power, interrupts_while_enabled};
+ghost use Rattle.wdf_laws.specs.Laws.{alone_row, is_enabled_in_power, law_4};
 ghost use Rattle.wdf_model.specs.Plans.{interrupt_of};
 ghost use Rattle.wdf_model.specs.rules.Ready.{IsRunOf};
 
@@ -36,8 +36,8 @@ pub fn runs_defer_when_enabled<A>()
 
 /// In every run of a resolved plan, each event keeps the fourth law. EvtInterruptEnable begins only on an entered device, and
 /// an interrupt's other callbacks only after it was enabled there. Those with its lock begin alone.
-#[tactic(auto, using(crate::proofs::Laws::interrupts_while_enabled_at_each))]
+#[tactic(auto, using(crate::proofs::Laws::law_4_at_each))]
 pub fn runs_call_interrupts_in_power<A>()
     ensures { (plan : Plan) (m : Meaning A) (run : List Event) (k : ℕ) (e : Event) → IsResolved plan → IsRunOf plan m run
-        → slice_get run k ≡ Some e → interrupts_while_enabled plan (take k run) (frames_after (take k run)) e ≡ true }
+        → slice_get run k ≡ Some e → law_4 plan (take k run) (frames_after (take k run)) e ≡ true }
 {}

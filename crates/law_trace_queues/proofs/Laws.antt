@@ -32,7 +32,7 @@ use Rattle.law_machine_counts.proofs.HeldOverRuns.{from_by, holds_at_each}
 use Rattle.law_machine_counts.proofs.PowerQueues.{queues_at_each}
 use Rattle.law_machine_lives.proofs.Keeping.{at_the_end, each_place_by}
 use Rattle.law_machine_lives.proofs.SoundRuns.{all_known}
-use Rattle.wdf_laws.specs.Laws.{begun_with_power, has_power, is_power_rank, works_with_power, presented_with_power}
+use Rattle.wdf_laws.specs.Laws.{begun_with_power, has_power, is_power_rank, law_5, presented_with_power}
 use Rattle.wdf_laws.specs.Events.{presented}
 use Rattle.law_trace_power.proofs.Frames.{StepFrames}
 use Rattle.law_trace_power.proofs.Events.{Kept}
@@ -161,6 +161,6 @@ pub resumes_at_each : {A : Type 0} (plan : Plan) (m : Meaning A) (run : List Eve
     → slice_get run k ≡ Some (event.Start cpu callback.EvtIoResume o r) → has_power plan (take k run) (queue_of plan o.id.0) ≡ true
 resumes_at_each plan m run k cpu o r resolved is_run at = begins_at plan m run k resolved is_run cpu callback.EvtIoResume o r refl at
 
-pub works_with_power_at_each : {A : Type 0} (plan : Plan) (m : Meaning A) (run : List Event) (k : ℕ) (e : Event) → IsResolved plan → IsRunOf plan m run → slice_get run k ≡ Some e → works_with_power plan (take k run) e ≡ true
-works_with_power_at_each plan m run k e resolved is_run at =
+pub law_5_at_each : {A : Type 0} (plan : Plan) (m : Meaning A) (run : List Event) (k : ℕ) (e : Event) → IsResolved plan → IsRunOf plan m run → slice_get run k ≡ Some e → law_5 plan (take k run) e ≡ true
+law_5_at_each plan m run k e resolved is_run at =
     both (presented_with_power plan (take k run) (presented e)) (begun_with_power plan (take k run) e) (presents_at_each plan m run k e resolved is_run at) (begun plan m run k resolved is_run e at)

@@ -1,5 +1,5 @@
--- A request returns from a power-managed queue only while the queues of its device are up. Each deed that leaves the power
--- of devices alone keeps this, and so does `queues_down`, which closes what returns from them.
+-- A request returns to a power-managed queue only while the queues of its device are up. Each deed that leaves the power
+-- of devices alone keeps this, and so does `queues_down`, which closes what returns to them.
 use Rattle.std.proofs.Common.{if◌then◌else◌, ◌≡◌, ◌≢◌, ℕ, zero, suc, ◌==◌, ◌<◌, Bool, true, false, not, ◌&&◌, ◌||◌, List, [], ◌∷◌, inl, inr, Option, Some, None, filter, fold, map, length, option_map, unwrap_or, refl, sym, ap, subst, ◌∙◌, arith}
 use Rattle.std.proofs.lemmas.Bool.{eqb-true}
 use Rattle.std.proofs.lemmas.Option.{slice_get_within}
@@ -15,7 +15,7 @@ use Rattle.wdf_base.specs.declared.object.Place.{Place}
 use Rattle.wdf_base.specs.declared.object.Place.TheVariants as place
 use Rattle.wdf_base.specs.declared.object.RequestInfo.{RequestInfo}
 use Rattle.wdf_base.specs.declared.call.Callback.TheVariants as callback
-use Rattle.wdf_base.specs.Places.{is_marked, is_returning_from}
+use Rattle.wdf_base.specs.Places.{is_marked, is_returning_to}
 use Rattle.wdf_model.specs.declared.enums.Mode.TheVariants as mode
 use Rattle.wdf_model.specs.declared.entries.DevicePower.{DevicePower}
 use Rattle.wdf_model.specs.declared.entries.Request.{Request}
@@ -29,7 +29,7 @@ use Rattle.wdf_model.specs.parts.Power.{holding_of, is_held, no_device_power}
 use Rattle.wdf_model.specs.parts.Requests.{Requests, cancelled, closed_at, forgotten, info_of, is_in, is_over, made_info, marked, moved, no_request, place_of, request_of, unmarked, with_mark, with_request}
 use Rattle.wdf_model.specs.parts.Requests as requests
 use Rattle.wdf_model.specs.parts.Targets.{is_forgotten}
-use Rattle.wdf_model.specs.State.{State, is_powered, is_with_driver, returns_from, withdrawn_place}
+use Rattle.wdf_model.specs.State.{State, is_powered, is_with_driver, returns_to, withdrawn_place}
 use Rattle.wdf_model.specs.Ids.{object_id}
 use Rattle.wdf_model.specs.declared.deed.Deed.{Deed}
 use Rattle.wdf_model.specs.declared.deed.Deed.TheVariants.{Arrive, AskDeletion, CancelRequest, CloseDevice, CloseReturning, ComeBack, CompleteRequest, EndLife, FinishSending, Forward, GiveBack, MakeRequest, MarkRequest, Present, PurgeQueue, Receive, Requeue, SendRequest, TakeCancel, UnmarkRequest, Withdraw}
@@ -50,9 +50,9 @@ use Rattle.law_machine_counts.proofs.PowerQueues.{released_devices}
 abbrev pub powered_by : Plan → List DevicePower → ℕ → Bool
 powered_by plan D q = not (is_managed plan q) || (entry no_device_power D (device_of_queue plan q)).up
 
--- each queue from which a request returns has power
+-- each queue to which a request returns has power
 abbrev pub Backed : Plan → List DevicePower → Requests → Type 0
-Backed plan D R = (x q : ℕ) → is_returning_from q (place_of R x) ≡ true → powered_by plan D q ≡ true
+Backed plan D R = (x q : ℕ) → is_returning_to q (place_of R x) ≡ true → powered_by plan D q ≡ true
 
 abbrev devices_of : {A : Type 0} → State A → List DevicePower
 devices_of S = S.power.devices
@@ -66,7 +66,7 @@ given_devices S r = given_by S _ (is_with_driver S r) (released_devices S.power 
 
 module _ (plan : Plan) (D : List DevicePower) where
   abbrev At : Place → Type 0
-  At p = (q : ℕ) → is_returning_from q p ≡ true → powered_by plan D q ≡ true
+  At p = (q : ℕ) → is_returning_to q p ≡ true → powered_by plan D q ≡ true
 
   -- ---- one request changes
 
@@ -136,9 +136,9 @@ module _ (plan : Plan) (D : List DevicePower) where
 
   withdrawn_at : {A : Type 0} (U : State A) (q r : ℕ) → devices_of U ≡ D → At (withdrawn_place plan U q r)
   withdrawn_at U q r same =
-      returned_at ((info_of U.requests r).received && returns_from plan U q) q
+      returned_at ((info_of U.requests r).received && returns_to plan U q) q
       (λ yes.
-      let powered : is_powered plan U q ≡ true = both_right (declares plan callback.EvtIoCanceledOnQueue q && not (is_closed U.control (device_of_queue plan q))) (is_powered plan U q) (both_right (info_of U.requests r).received (returns_from plan U q) yes) in
+      let powered : is_powered plan U q ≡ true = both_right (declares plan callback.EvtIoCanceledOnQueue q && not (is_closed U.control (device_of_queue plan q))) (is_powered plan U q) (both_right (info_of U.requests r).received (returns_to plan U q) yes) in
       subst (λ E. powered_by plan E q ≡ true) same powered)
 
   cancelled_in : {A : Type 0} (U : State A) (q r : ℕ) → devices_of U ≡ D → Backed plan D U.requests → Backed plan D (cancel_in plan U q r).requests
@@ -151,7 +151,7 @@ module _ (plan : Plan) (D : List DevicePower) where
 
   all_returning : {A : Type 0} (qs : List ℕ) (S : State A) → Backed plan D S.requests → Backed plan D (fold close_returning S qs).requests
   all_returning [] S k = k
-  all_returning (q ∷ qs) S k = all_returning qs (close_returning S q) (all_close S.requests (is_returning_from q) refl k)
+  all_returning (q ∷ qs) S k = all_returning qs (close_returning S q) (all_close S.requests (is_returning_to q) refl k)
 
   all_closed : {A : Type 0} (qs : List ℕ) (S : State A) → Backed plan D S.requests → Backed plan D (fold close_queue S qs).requests
   all_closed [] S k = k
@@ -214,28 +214,28 @@ backed_more plan R D E more k x q h = by_managed (is_managed plan q) refl (k x q
 
 -- ---- `queues_down`
 
-was_closed : (q : ℕ) (e : Request) (here : Place → Bool) (b : Bool) → here e.place ≡ b → is_returning_from q (closed_at here e).place ≡ true → (b ≡ false) × (is_returning_from q e.place ≡ true)
-was_closed q e here true h k = absurd (let t : is_returning_from q (place.Closing status.Cancelled) ≡ true = rw h at k in let z : ⊥ = cc in z)
+was_closed : (q : ℕ) (e : Request) (here : Place → Bool) (b : Bool) → here e.place ≡ b → is_returning_to q (closed_at here e).place ≡ true → (b ≡ false) × (is_returning_to q e.place ≡ true)
+was_closed q e here true h k = absurd (let t : is_returning_to q (place.Closing status.Cancelled) ≡ true = rw h at k in let z : ⊥ = cc in z)
 was_closed q e here false h k = (refl, rw h at k)
 
 -- what returns after a queue's returning requests are closed returned before, to another queue
-still_returning : (R : Requests) (p q x : ℕ) → is_returning_from q (place_of (requests.close_returning R p) x) ≡ true → (is_returning_from p (place_of R x) ≡ false) × (is_returning_from q (place_of R x) ≡ true)
+still_returning : (R : Requests) (p q x : ℕ) → is_returning_to q (place_of (requests.close_returning R p) x) ≡ true → (is_returning_to p (place_of R x) ≡ false) × (is_returning_to q (place_of R x) ≡ true)
 still_returning R p q x h =
-    was_closed q (request_of R x) (is_returning_from p) (is_returning_from p (place_of R x)) refl
-    (subst (λ (y : Request). is_returning_from q y.place ≡ true) (entry_map no_request R.all (closed_at (is_returning_from p)) x refl) h)
+    was_closed q (request_of R x) (is_returning_to p) (is_returning_to p (place_of R x)) refl
+    (subst (λ (y : Request). is_returning_to q y.place ≡ true) (entry_map no_request R.all (closed_at (is_returning_to p)) x refl) h)
 
-returned_before : {A : Type 0} (qs : List ℕ) (S : State A) (q x : ℕ) → is_returning_from q (place_of (fold close_returning S qs).requests x) ≡ true → is_returning_from q (place_of S.requests x) ≡ true
+returned_before : {A : Type 0} (qs : List ℕ) (S : State A) (q x : ℕ) → is_returning_to q (place_of (fold close_returning S qs).requests x) ≡ true → is_returning_to q (place_of S.requests x) ≡ true
 returned_before [] S q x h = h
 returned_before (p ∷ qs) S q x h = (still_returning S.requests p q x (returned_before qs (close_returning S p) q x h)).1
 
-none_returns : {A : Type 0} (qs : List ℕ) (S : State A) (q x : ℕ) → contains q qs ≡ true → is_returning_from q (place_of (fold close_returning S qs).requests x) ≡ true → ⊥
+none_returns : {A : Type 0} (qs : List ℕ) (S : State A) (q x : ℕ) → contains q qs ≡ true → is_returning_to q (place_of (fold close_returning S qs).requests x) ≡ true → ⊥
 none_returns [] S q x there h = let z : ⊥ = cc in z
 none_returns (p ∷ qs) S q x there h = by_first (p == q) refl there (λ t. none_returns qs (close_returning S p) q x t h)
   where
     by_first : (b : Bool) → (p == q) ≡ b → (b || contains q qs) ≡ true → (contains q qs ≡ true → ⊥) → ⊥
     by_first true e t rest =
         let k = still_returning S.requests p q x (returned_before qs (close_returning S p) q x h) in
-        let other : is_returning_from q (place_of S.requests x) ≡ false = subst (λ i. is_returning_from i (place_of S.requests x) ≡ false) (eqb-true p q e) k.0 in
+        let other : is_returning_to q (place_of S.requests x) ≡ false = subst (λ i. is_returning_to i (place_of S.requests x) ≡ false) (eqb-true p q e) k.0 in
         let yes = k.1 in
         let z : ⊥ = cc in z
     by_first false e t rest = rest t
@@ -267,7 +267,7 @@ managed_there plan q d h e =
     contains_kept (is_managed plan) q (queues_of plan d) h
     (contained (λ id. is_queue_of d (queue_of plan id)) q 0 (suc (length plan.declared)) (queue_of_its_device d (queue_of plan q) h e) (omega arith) (omega arith))
 
--- after what returns from the power-managed queues of a device is closed, these may lose power
+-- after what returns to the power-managed queues of a device is closed, these may lose power
 pub backed_down : {A : Type 0} (plan : Plan) (S : State A) (n : ℕ) (D E : List DevicePower) → ((d : ℕ) → d ≢ n → entry no_device_power E d ≡ entry no_device_power D d) → Backed plan D S.requests → Backed plan E (fold close_returning S (managed_queues plan n)).requests
 backed_down plan S n D E others k x q h = by_managed (is_managed plan q) refl
   where

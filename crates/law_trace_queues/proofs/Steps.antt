@@ -1,4 +1,4 @@
--- Each event that may come keeps it that requests return from power-managed queues, and resumes are due, only with power.
+-- Each event that may come keeps it that requests return to power-managed queues, and resumes are due, only with power.
 use Rattle.std.proofs.Common.{◌≡◌, ℕ, ◌==◌, ◌≤◌, Bool, true, false, not, ◌&&◌, ◌||◌, List, [], ◌∷◌, ◌++◌, Option, Some, None, drop, length, refl, sym, ap, subst, ◌∙◌, arith}
 use Rattle.std.proofs.lemmas.Bool.{eqb-true}
 use Rattle.wdf_base.specs.Meaning.{Meaning}
@@ -57,7 +57,7 @@ use Rattle.law_trace_queues.proofs.Dues.{AllFit, Dues, IsDue, all_fit_asked, all
 use Rattle.law_machine_counts.proofs.StepEvents.{sequence_is}
 use Rattle.wdf_model.proofs.FrameCounts.{on}
 
--- only with power do requests return from queues, and are resumes due
+-- only with power do requests return to queues, and are resumes due
 pub record WithPower {A : Type 0} (plan : Plan) (S : State A) : Type 0 where
   pub backed : Backed plan S.power.devices S.requests
   pub steps : AllFit S.pnp

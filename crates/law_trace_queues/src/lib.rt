@@ -10,12 +10,12 @@ ghost use Rattle.wdf_base.specs.declared.ids.Handle.{Handle};
 ghost use Rattle.wdf_base.specs.declared.call.Callback.TheVariants as callback;
 ghost use Rattle.wdf_base.specs.declared.event.Event.{Event};
 ghost use Rattle.wdf_base.specs.declared.event.Event.TheVariants as event;
-ghost use Rattle.wdf_laws.specs.Laws.{has_power, works_with_power};
+ghost use Rattle.wdf_laws.specs.Laws.{has_power, law_5};
 ghost use Rattle.wdf_model.specs.Plans.{queue_of};
 ghost use Rattle.wdf_model.specs.rules.Ready.{IsRunOf, state_after};
 ghost use Rattle.law_trace_queues.specs.Agreement.{RequestsAndPowerAgree};
 
-/// At each place of every run of a resolved plan, a queue from which a request returns has power. While a resume is due for
+/// At each place of every run of a resolved plan, a queue to which a request returns has power. While a resume is due for
 /// a held request, the queues of its device are up, and the device waits at the step right after `queues_up`.
 #[tactic(auto, using(crate::proofs::Laws::agrees_at_each))]
 pub fn requests_and_power_agree<A>()
@@ -40,7 +40,7 @@ pub fn runs_resume_with_power<A>()
 
 /// In every run of a resolved plan, each event keeps the fifth law: a power-managed queue presents, and its
 /// EvtIoCanceledOnQueue, EvtIoResume and EvtIoQueueState begin, only while its device has power.
-#[tactic(auto, using(crate::proofs::Laws::works_with_power_at_each))]
+#[tactic(auto, using(crate::proofs::Laws::law_5_at_each))]
 pub fn runs_work_queues_with_power<A>()
-    ensures { (plan : Plan) (m : Meaning A) (run : List Event) (k : ℕ) (e : Event) → IsResolved plan → IsRunOf plan m run → slice_get run k ≡ Some e → works_with_power plan (take k run) e ≡ true }
+    ensures { (plan : Plan) (m : Meaning A) (run : List Event) (k : ℕ) (e : Event) → IsResolved plan → IsRunOf plan m run → slice_get run k ≡ Some e → law_5 plan (take k run) e ≡ true }
 {}

@@ -60,7 +60,7 @@ use Rattle.law_machine_base.proofs.LawsOverRuns.{history_now}
 use Rattle.wdf_laws.specs.declared.sign.Sign.TheVariants as sign
 use Rattle.wdf_laws.specs.Events.{id_in, is_id, where_so}
 use Rattle.wdf_laws.specs.Signs.{shows}
-use Rattle.wdf_laws.specs.Laws.{is_cancel_due, cancelled_once}
+use Rattle.wdf_laws.specs.Laws.{is_cancel_due, law_7}
 use Rattle.law_machine_lives.proofs.Keeping.{comes}
 use Rattle.law_machine_lives.proofs.ReasonsOfCalls.{call_of}
 use Rattle.law_trace_requests.proofs.Happened.{ever_next, never_yet}
@@ -318,18 +318,18 @@ none_due es true = refl
 none_due es false = refl
 
 law_of_cancel : {A : Type 0} (plan : Plan) (m : Meaning A) (es : List Event) (S : State A) (cpu : Cpu) (o r : Handle) → may plan m S (event.Start cpu callback.EvtRequestCancel o (Some r)) ≡ true → AllGo es S.requests
-    → cancelled_once es (event.Start cpu callback.EvtRequestCancel o (Some r)) ≡ true
+    → law_7 es (event.Start cpu callback.EvtRequestCancel o (Some r)) ≡ true
 law_of_cancel plan m es S cpu o r h g =
     let ready_ : rank_ready_for plan S rank.Cancel callback.EvtRequestCancel o.id.0 r.id.0 ≡ true = started plan m S cpu callback.EvtRequestCancel o (Some r) h in
     due_as_told (marks_stand r.id.0 es) (was_posted r.id.0 es) (has_begun r.id.0 es) S.requests r.id.0 (both_left (is_due (mark_of S.requests r.id.0)) (is_held_from S o.id.0 r.id.0) ready_) (g r.id.0)
 
 law_of_start : {A : Type 0} (plan : Plan) (m : Meaning A) (es : List Event) (S : State A) (cpu : Cpu) (c : Callback) (o : Handle) (r : Option Handle) → may plan m S (event.Start cpu c o r) ≡ true → AllGo es S.requests
-    → cancelled_once es (event.Start cpu c o r) ≡ true
+    → law_7 es (event.Start cpu c o r) ≡ true
 law_of_start plan m es S cpu c o None h g = none_due es (same_callback c callback.EvtRequestCancel)
 law_of_start plan m es S cpu callback.EvtRequestCancel o (Some r) h g = law_of_cancel plan m es S cpu o r h g
 law_of_start plan m es S cpu _ o (Some r) h g = refl
 
-pub cancelled_once_at_each : {A : Type 0} (plan : Plan) (m : Meaning A) (run : List Event) (k : ℕ) (e : Event) → IsRunOf plan m run → slice_get run k ≡ Some e → cancelled_once (take k run) e ≡ true
-cancelled_once_at_each plan m run k (event.Start cpu c o r) is_run at =
+pub law_7_at_each : {A : Type 0} (plan : Plan) (m : Meaning A) (run : List Event) (k : ℕ) (e : Event) → IsRunOf plan m run → slice_get run k ≡ Some e → law_7 (take k run) e ≡ true
+law_7_at_each plan m run k (event.Start cpu c o r) is_run at =
     law_of_start plan m (take k run) (state_after plan m (take k run)) cpu c o r (comes plan m run k (event.Start cpu c o r) is_run at (λ time e. let z : ⊥ = cc in z)) (all_go_at_each plan m run is_run k)
-cancelled_once_at_each plan m run k _ is_run at = refl
+law_7_at_each plan m run k _ is_run at = refl

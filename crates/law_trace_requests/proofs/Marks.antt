@@ -10,7 +10,7 @@ use Rattle.wdf_base.specs.declared.object.Mark.TheVariants as marks
 use Rattle.wdf_base.specs.declared.object.Place.{Place}
 use Rattle.wdf_base.specs.declared.object.Place.TheVariants as place
 use Rattle.wdf_base.specs.declared.object.RequestInfo.{RequestInfo}
-use Rattle.wdf_base.specs.Places.{is_done, is_due, is_marked, is_owned, is_queued_in, is_returning_from, is_sent}
+use Rattle.wdf_base.specs.Places.{is_done, is_due, is_marked, is_owned, is_queued_in, is_returning_to, is_sent}
 use Rattle.wdf_model.specs.declared.enums.Mode.TheVariants as mode
 use Rattle.wdf_model.specs.declared.entries.Request.{Request}
 use Rattle.wdf_model.specs.Tables.{entry, flag, put, same_id}
@@ -22,7 +22,7 @@ use Rattle.wdf_model.specs.parts.Queues.{front, waiting_in}
 use Rattle.wdf_model.specs.parts.Queues as queues
 use Rattle.wdf_model.specs.parts.Control as control
 use Rattle.wdf_model.specs.parts.Targets.{is_forgotten, is_undone, routine_due}
-use Rattle.wdf_model.specs.State.{State, returns_from, withdrawn_place}
+use Rattle.wdf_model.specs.State.{State, returns_to, withdrawn_place}
 use Rattle.wdf_model.specs.Ids.{object_id}
 use Rattle.wdf_model.specs.declared.deed.Deed.{Deed}
 use Rattle.wdf_model.specs.declared.deed.Deed.TheVariants.{MakeRequest, Arrive, AskDeletion, EndLife, Present, Receive, Requeue, Forward, GiveBack, Withdraw, MarkRequest, UnmarkRequest, CancelRequest, TakeCancel, SendRequest, FinishSending, ComeBack, CompleteRequest, PurgeQueue, CloseReturning, CloseDevice}
@@ -233,7 +233,7 @@ new_request_comes R r p info new off m c b x g =
 -- ---- places
 
 pub withdrawn_unmarked : {A : Type 0} (plan : Plan) (S : State A) (q r : ℕ) (k : Mark) → mark_at (withdrawn_place plan S q r) k ≡ marks.Unmarked
-withdrawn_unmarked plan S q r k = elim (cases_Bool ((info_of S.requests r).received && returns_from plan S q)) [
+withdrawn_unmarked plan S q r k = elim (cases_Bool ((info_of S.requests r).received && returns_to plan S q)) [
   | inl e ↦ rw e refl
   | inr e ↦ rw e refl
 ]
@@ -256,7 +256,7 @@ all_withdrawn plan q (r ∷ rs) S =
 
 all_returning : {A : Type 0} (qs : List ℕ) (S : State A) → StillGoes S.requests (fold close_returning S qs).requests
 all_returning [] S = λ m c b x g. g
-all_returning (q ∷ qs) S = still_then S.requests (close_returning S q).requests (fold close_returning (close_returning S q) qs).requests (all_close S.requests (is_returning_from q) refl (returning_undone q)) (all_returning qs (close_returning S q))
+all_returning (q ∷ qs) S = still_then S.requests (close_returning S q).requests (fold close_returning (close_returning S q) qs).requests (all_close S.requests (is_returning_to q) refl (returning_undone q)) (all_returning qs (close_returning S q))
 
 all_closed : {A : Type 0} (qs : List ℕ) (S : State A) → StillGoes S.requests (fold close_queue S qs).requests
 all_closed [] S = λ m c b x g. g

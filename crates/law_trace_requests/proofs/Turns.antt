@@ -44,7 +44,7 @@ use Rattle.wdf_laws.specs.declared.sign.Taking.{Taking}
 use Rattle.wdf_laws.specs.Events.{argument_object, is_handler, pair_of, presented, value_object, where_so}
 use Rattle.wdf_laws.specs.Signs.{shows}
 use Rattle.wdf_laws.specs.Words.{ever}
-use Rattle.wdf_laws.specs.Laws.{all_in_turn, is_in_order, is_in_turn, is_presented_in_turn, presented_from_head, presented_at, presented_in}
+use Rattle.wdf_laws.specs.Laws.{all_in_turn, is_in_order, is_in_turn, is_presented_in_turn, law_8, presented_at, presented_in}
 use Rattle.law_machine_base.proofs.KeptMoves.{queue_here}
 use Rattle.law_machine_lives.proofs.Keeping.{comes}
 use Rattle.law_machine_lives.proofs.ReasonsOfCalls.{call_of}
@@ -272,5 +272,5 @@ module _ {A : Type 0} (plan : Plan) (m : Meaning A) (run : List Event) (is_run :
       short [] (suc i) = omega arith
       short (x ∷ xs) (suc i) = let h : length (take i xs) ≤ i = short xs i in omega arith
 
-pub presented_from_head_at_each : {A : Type 0} (plan : Plan) (m : Meaning A) (run : List Event) (k : ℕ) (e : Event) → IsRunOf plan m run → slice_get run k ≡ Some e → presented_from_head (take k run) e ≡ true
-presented_from_head_at_each plan m run k e is_run at = law_by plan m run is_run k e at (presented e) refl
+pub law_8_at_each : {A : Type 0} (plan : Plan) (m : Meaning A) (run : List Event) (k : ℕ) (e : Event) → IsRunOf plan m run → slice_get run k ≡ Some e → law_8 (take k run) e ≡ true
+law_8_at_each plan m run k e is_run at = law_by plan m run is_run k e at (presented e) refl

@@ -46,7 +46,7 @@ use Rattle.wdf_laws.specs.Events.{told}
 use Rattle.wdf_laws.specs.Family.{first_told, scope_on, tells_of, told_class}
 use Rattle.wdf_laws.specs.Family as law
 use Rattle.wdf_laws.specs.Frames.{frames_after}
-use Rattle.wdf_laws.specs.Laws.{is_free_scope, is_under, one_under_a_lock, needs}
+use Rattle.wdf_laws.specs.Laws.{is_free_scope, is_under, law_2, needs}
 use Rattle.law_trace_families.proofs.Families.{Family, First_by, First_none, Knows_declared, Knows_none, Knows_told, family_at_each, first, knows, told_still}
 use Rattle.law_trace_families.proofs.Orders.{earlier_or_later, found_place, makes_at, take_drop}
 use Rattle.law_trace_families.proofs.Stays.{event_stays}
@@ -236,6 +236,6 @@ free_by plan m run k cpu c o r (Some s) resolved is_run at e = elim (cases_Bool 
   | inr none ↦ ap not none
 ]
 
-pub one_under_a_lock_at_each : {A : Type 0} (plan : Plan) (m : Meaning A) (run : List Event) (k : ℕ) (e : Event) → IsResolved plan → IsRunOf plan m run → slice_get run k ≡ Some e → one_under_a_lock plan run (frames_after (take k run)) e ≡ true
-one_under_a_lock_at_each plan m run k (event.Start cpu c o r) resolved is_run at = free_by plan m run k cpu c o r (scope_on plan run c o.id.0) resolved is_run at refl
-one_under_a_lock_at_each plan m run k _ resolved is_run at = refl
+pub law_2_at_each : {A : Type 0} (plan : Plan) (m : Meaning A) (run : List Event) (k : ℕ) (e : Event) → IsResolved plan → IsRunOf plan m run → slice_get run k ≡ Some e → law_2 plan run (frames_after (take k run)) e ≡ true
+law_2_at_each plan m run k (event.Start cpu c o r) resolved is_run at = free_by plan m run k cpu c o r (scope_on plan run c o.id.0) resolved is_run at refl
+law_2_at_each plan m run k _ resolved is_run at = refl

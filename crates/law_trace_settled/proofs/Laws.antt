@@ -45,7 +45,7 @@ use Rattle.law_trace_families.proofs.Families.{family_at_each}
 use Rattle.wdf_laws.specs.declared.sign.Sign.TheVariants as sign
 use Rattle.wdf_laws.specs.declared.sign.Taking.{Taking}
 use Rattle.wdf_laws.specs.Events.{argument_object, is_id, pair_of, taken, value_object, where_so}
-use Rattle.wdf_laws.specs.Laws.{all_acknowledged, is_acknowledged, is_acknowledged_at, is_managed_of, acknowledged_before_power_loss}
+use Rattle.wdf_laws.specs.Laws.{all_acknowledged, is_acknowledged, is_acknowledged_at, is_managed_of, law_6}
 use Rattle.wdf_laws.specs.Signs.{is_taking_of, shows}
 use Rattle.wdf_laws.specs.Words.{followed, stands}
 use Rattle.law_trace_requests.proofs.Cancels.{stands_next}
@@ -286,11 +286,11 @@ module _ {A : Type 0} (plan : Plan) (m : Meaning A) (run : List Event) (k : ℕ)
   starts_by cpu c o r true is at = exit_at_each cpu o r (at ∙ ap (λ x. Some (event.Start cpu x o r)) ((callback_decides c callback.EvtDeviceD0Exit).0 is))
   starts_by cpu c o r false is at = refl
 
-  stages_by : (device : Handle) (s : Stage) (j : Option Handle) → slice_get run k ≡ Some (event.Stage device s j) → acknowledged_before_power_loss plan (take k run) (event.Stage device s j) ≡ true
+  stages_by : (device : Handle) (s : Stage) (j : Option Handle) → slice_get run k ≡ Some (event.Stage device s j) → law_6 plan (take k run) (event.Stage device s j) ≡ true
   stages_by device stage.Settled j at = both (all_acknowledged plan (take k run) (Some device.id.0)) true (settled_at_each device j at) refl
   stages_by device s j at = refl
 
-  law_by : (e : Event) → slice_get run k ≡ Some e → acknowledged_before_power_loss plan (take k run) e ≡ true
+  law_by : (e : Event) → slice_get run k ≡ Some e → law_6 plan (take k run) e ≡ true
   law_by (event.Start cpu c o r) at = starts_by cpu c o r (same_callback c callback.EvtDeviceD0Exit) refl at
   law_by (event.Stage device s j) at = stages_by device s j at
   law_by e at = refl
@@ -303,5 +303,5 @@ pub exit_after : {A : Type 0} (plan : Plan) (m : Meaning A) (run : List Event) (
     → all_acknowledged plan (take k run) (Some o.id.0) ≡ true
 exit_after plan m run k cpu o r resolved is_run at = exit_at_each plan m run k resolved is_run cpu o r at
 
-pub acknowledged_before_power_loss_at_each : {A : Type 0} (plan : Plan) (m : Meaning A) (run : List Event) (k : ℕ) (e : Event) → IsResolved plan → IsRunOf plan m run → slice_get run k ≡ Some e → acknowledged_before_power_loss plan (take k run) e ≡ true
-acknowledged_before_power_loss_at_each plan m run k e resolved is_run at = law_by plan m run k resolved is_run e at
+pub law_6_at_each : {A : Type 0} (plan : Plan) (m : Meaning A) (run : List Event) (k : ℕ) (e : Event) → IsResolved plan → IsRunOf plan m run → slice_get run k ≡ Some e → law_6 plan (take k run) e ≡ true
+law_6_at_each plan m run k e resolved is_run at = law_by plan m run k resolved is_run e at

@@ -1,4 +1,4 @@
--- A request returns from a power-managed queue only while the queues of its device are up.
+-- A request returns to a power-managed queue only while the queues of its device are up.
 use Rattle.std.proofs.Common.{if◌then◌else◌, ◌≡◌, ℕ, Bool, true, false, not, ◌&&◌, ◌||◌, List, [], ◌∷◌, inl, inr, map, fold, refl, sym, ap, subst, ◌∙◌}
 use Rattle.std.proofs.lemmas.Bool.{eqb-true}
 use Rattle.wdf_base.specs.declared.plan.Plan.{Plan}
@@ -8,7 +8,7 @@ use Rattle.wdf_base.specs.declared.object.Mark.TheVariants as marks
 use Rattle.wdf_base.specs.declared.object.Place.{Place}
 use Rattle.wdf_base.specs.declared.object.Place.TheVariants as place
 use Rattle.wdf_base.specs.declared.object.RequestInfo.{RequestInfo}
-use Rattle.wdf_base.specs.Places.{is_marked, is_returning_from}
+use Rattle.wdf_base.specs.Places.{is_marked, is_returning_to}
 use Rattle.wdf_model.specs.declared.enums.Mode.TheVariants as mode
 use Rattle.wdf_model.specs.declared.entries.DevicePower.{DevicePower}
 use Rattle.wdf_model.specs.declared.entries.Request.{Request}
@@ -21,7 +21,7 @@ use Rattle.wdf_model.specs.parts.Queues.{waiting_in}
 use Rattle.wdf_model.specs.parts.Control as control
 use Rattle.wdf_model.specs.parts.Power.{holding_of, is_held, no_device_power}
 use Rattle.wdf_model.specs.parts.Targets.{is_forgotten}
-use Rattle.wdf_model.specs.State.{State, is_powered, is_with_driver, returns_from, withdrawn_place}
+use Rattle.wdf_model.specs.State.{State, is_powered, is_with_driver, returns_to, withdrawn_place}
 use Rattle.wdf_model.specs.declared.deed.Deed.{Deed}
 use Rattle.wdf_model.specs.declared.deed.Deed.TheVariants.{MakeRequest, Arrive, AskDeletion, EndLife, Present, Receive, Requeue, Forward, GiveBack, Withdraw, MarkRequest, UnmarkRequest, CancelRequest, TakeCancel, SendRequest, FinishSending, ComeBack, CompleteRequest, PurgeQueue, CloseReturning, CloseDevice}
 use Rattle.wdf_model.specs.rules.Deeds.{arrive_at, cancel_in, close_queue, close_returning, do_deed, finished_at, give_up, give_up_if, queued, withdraw}
@@ -37,75 +37,75 @@ use Rattle.law_machine_counts.proofs.PowerQueues.{released_devices}
 
 -- ---- requests
 
--- a request that returns from a queue returned from it before, or the queue passes a test
+-- a request that returns to a queue returned to it before, or the queue passes a test
 module _ (p : ℕ → Bool) where
   abbrev pub Comes : Requests → Requests → Type 0
-  Comes R U = (r q : ℕ) → is_returning_from q (place_of U r) ≡ true → (is_returning_from q (place_of R r) || p q) ≡ true
+  Comes R U = (r q : ℕ) → is_returning_to q (place_of U r) ≡ true → (is_returning_to q (place_of R r) || p q) ≡ true
 
   pub comes_same : (R U : Requests) → U ≡ R → Comes R U
-  comes_same R U e r q h = first (is_returning_from q (place_of R r)) (p q) (subst (λ (V : Requests). is_returning_from q (place_of V r) ≡ true) e h)
+  comes_same R U e r q h = first (is_returning_to q (place_of R r)) (p q) (subst (λ (V : Requests). is_returning_to q (place_of V r) ≡ true) e h)
 
   either_then : (x y z : Bool) → (x || y) ≡ true → (x ≡ true → (z || y) ≡ true) → (z || y) ≡ true
   either_then true y z h k = k refl
   either_then false y z h k = second z y h
 
   comes_then : (R U V : Requests) → Comes R U → Comes U V → Comes R V
-  comes_then R U V a b r q h = either_then (is_returning_from q (place_of U r)) (p q) (is_returning_from q (place_of R r)) (b r q h) (a r q)
+  comes_then R U V a b r q h = either_then (is_returning_to q (place_of U r)) (p q) (is_returning_to q (place_of R r)) (b r q h) (a r q)
 
-  comes_one : (R : Requests) (r : ℕ) (f : Request → Request) → ((q : ℕ) → is_returning_from q (f (request_of R r)).place ≡ true → (is_returning_from q (place_of R r) || p q) ≡ true) → Comes R (with_request R r f)
+  comes_one : (R : Requests) (r : ℕ) (f : Request → Request) → ((q : ℕ) → is_returning_to q (f (request_of R r)).place ≡ true → (is_returning_to q (place_of R r) || p q) ≡ true) → Comes R (with_request R r f)
   comes_one R r f new x q h = elim (one_or_two x r) [
     | inl e ↦
-        let here : is_returning_from q (f (request_of R r)).place ≡ true = subst (λ (y : Request). is_returning_from q y.place ≡ true) (entry_put_same no_request R.all r (f (request_of R r))) (subst (λ y. is_returning_from q (place_of (with_request R r f) y) ≡ true) e h) in
-        subst (λ y. (is_returning_from q (place_of R y) || p q) ≡ true) (sym e) (new q here)
-    | inr n ↦ first (is_returning_from q (place_of R x)) (p q) (subst (λ (y : Request). is_returning_from q y.place ≡ true) (entry_put_other no_request R.all r x (f (request_of R r)) n) h)
+        let here : is_returning_to q (f (request_of R r)).place ≡ true = subst (λ (y : Request). is_returning_to q y.place ≡ true) (entry_put_same no_request R.all r (f (request_of R r))) (subst (λ y. is_returning_to q (place_of (with_request R r f) y) ≡ true) e h) in
+        subst (λ y. (is_returning_to q (place_of R y) || p q) ≡ true) (sym e) (new q here)
+    | inr n ↦ first (is_returning_to q (place_of R x)) (p q) (subst (λ (y : Request). is_returning_to q y.place ≡ true) (entry_put_other no_request R.all r x (f (request_of R r)) n) h)
   ]
 
-  comes_moved : (R : Requests) (r : ℕ) (to : Place) → ((q : ℕ) → is_returning_from q to ≡ true → (is_returning_from q (place_of R r) || p q) ≡ true) → Comes R (requests.move_to R r to)
+  comes_moved : (R : Requests) (r : ℕ) (to : Place) → ((q : ℕ) → is_returning_to q to ≡ true → (is_returning_to q (place_of R r) || p q) ≡ true) → Comes R (requests.move_to R r to)
   comes_moved R r to new = comes_one R r (moved to) new
 
-  comes_away : (R : Requests) (r : ℕ) (to : Place) → ((q : ℕ) → is_returning_from q to ≡ false) → Comes R (requests.move_to R r to)
+  comes_away : (R : Requests) (r : ℕ) (to : Place) → ((q : ℕ) → is_returning_to q to ≡ false) → Comes R (requests.move_to R r to)
   comes_away R r to off = comes_moved R r to (λ q h. absurd (let n = off q in let z : ⊥ = cc in z))
 
   comes_marked : (R : Requests) (r : ℕ) (f : Request → Request) → (f (request_of R r)).place ≡ place_of R r → Comes R (with_request R r f)
-  comes_marked R r f same = comes_one R r f (λ q h. first (is_returning_from q (place_of R r)) (p q) (sym (ap (is_returning_from q) same) ∙ h))
+  comes_marked R r f same = comes_one R r f (λ q h. first (is_returning_to q (place_of R r)) (p q) (sym (ap (is_returning_to q) same) ∙ h))
 
-  comes_new : (R : Requests) (r : ℕ) (to : Place) (info : RequestInfo) → ((q : ℕ) → is_returning_from q to ≡ false) → Comes R (requests.arrive R r to info)
+  comes_new : (R : Requests) (r : ℕ) (to : Place) (info : RequestInfo) → ((q : ℕ) → is_returning_to q to ≡ false) → Comes R (requests.arrive R r to info)
   comes_new R r to info off x q h = elim (one_or_two x r) [
     | inl e ↦
-        let here : is_returning_from q to ≡ true = subst (λ (y : Request). is_returning_from q y.place ≡ true) (entry_put_same no_request R.all r (record { place = to; info = info })) (subst (λ y. is_returning_from q (place_of (requests.arrive R r to info) y) ≡ true) e h) in
+        let here : is_returning_to q to ≡ true = subst (λ (y : Request). is_returning_to q y.place ≡ true) (entry_put_same no_request R.all r (record { place = to; info = info })) (subst (λ y. is_returning_to q (place_of (requests.arrive R r to info) y) ≡ true) e h) in
         absurd (let n = off q in let z : ⊥ = cc in z)
-    | inr n ↦ first (is_returning_from q (place_of R x)) (p q) (subst (λ (y : Request). is_returning_from q y.place ≡ true) (entry_put_other no_request R.all r x (record { place = to; info = info }) n) h)
+    | inr n ↦ first (is_returning_to q (place_of R x)) (p q) (subst (λ (y : Request). is_returning_to q y.place ≡ true) (entry_put_other no_request R.all r x (record { place = to; info = info }) n) h)
   ]
 
-  closed_by : (e : Request) (b : Bool) (q : ℕ) → is_returning_from q (if b then moved (place.Closing status.Cancelled) e else e).place ≡ true → (is_returning_from q e.place || p q) ≡ true
+  closed_by : (e : Request) (b : Bool) (q : ℕ) → is_returning_to q (if b then moved (place.Closing status.Cancelled) e else e).place ≡ true → (is_returning_to q e.place || p q) ≡ true
   closed_by e true q h = absurd (let z : ⊥ = cc in z)
-  closed_by e false q h = first (is_returning_from q e.place) (p q) h
+  closed_by e false q h = first (is_returning_to q e.place) (p q) h
 
   comes_closed : (R : Requests) (here : Place → Bool) → here place.Done ≡ false → Comes R (record R { all = map (closed_at here) R.all })
   comes_closed R here off x q h =
       let blank : closed_at here no_request ≡ no_request = rw off refl in
-      closed_by (request_of R x) (here (place_of R x)) q (subst (λ (y : Request). is_returning_from q y.place ≡ true) (entry_map no_request R.all (closed_at here) x blank) h)
+      closed_by (request_of R x) (here (place_of R x)) q (subst (λ (y : Request). is_returning_to q y.place ≡ true) (entry_map no_request R.all (closed_at here) x blank) h)
 
-  forgotten_by : (e : Request) (b : Bool) (q : ℕ) → is_returning_from q (if b then no_request else e).place ≡ true → (is_returning_from q e.place || p q) ≡ true
+  forgotten_by : (e : Request) (b : Bool) (q : ℕ) → is_returning_to q (if b then no_request else e).place ≡ true → (is_returning_to q e.place || p q) ≡ true
   forgotten_by e true q h = absurd (let z : ⊥ = cc in z)
-  forgotten_by e false q h = first (is_returning_from q e.place) (p q) h
+  forgotten_by e false q h = first (is_returning_to q e.place) (p q) h
 
   comes_forgotten : (R : Requests) (r : ℕ) → Comes R (requests.forget R r)
   comes_forgotten R r x q h = elim (one_or_two x r) [
     | inl e ↦
-        subst (λ y. (is_returning_from q (place_of R y) || p q) ≡ true) (sym e)
-        (forgotten_by (request_of R r) (is_over (request_of R r)) q (subst (λ (y : Request). is_returning_from q y.place ≡ true) (set_read no_request forgotten R.all r refl) (subst (λ y. is_returning_from q (place_of (requests.forget R r) y) ≡ true) e h)))
-    | inr n ↦ first (is_returning_from q (place_of R x)) (p q) (subst (λ (y : Request). is_returning_from q y.place ≡ true) (entry_set_other no_request R.all r x (forgotten (request_of R r)) n) h)
+        subst (λ y. (is_returning_to q (place_of R y) || p q) ≡ true) (sym e)
+        (forgotten_by (request_of R r) (is_over (request_of R r)) q (subst (λ (y : Request). is_returning_to q y.place ≡ true) (set_read no_request forgotten R.all r refl) (subst (λ y. is_returning_to q (place_of (requests.forget R r) y) ≡ true) e h)))
+    | inr n ↦ first (is_returning_to q (place_of R x)) (p q) (subst (λ (y : Request). is_returning_to q y.place ≡ true) (entry_set_other no_request R.all r x (forgotten (request_of R r)) n) h)
   ]
 
-  comes_cancelled : (R : Requests) (r : ℕ) (to : Place) → ((q : ℕ) → is_returning_from q to ≡ true → p q ≡ true) → Comes R (requests.move_to (requests.cancel R r) r to)
+  comes_cancelled : (R : Requests) (r : ℕ) (to : Place) → ((q : ℕ) → is_returning_to q to ≡ true → p q ≡ true) → Comes R (requests.move_to (requests.cancel R r) r to)
   comes_cancelled R r to new =
       comes_then R (requests.cancel R r) (requests.move_to (requests.cancel R r) r to) (comes_marked R r cancelled refl)
-      (comes_moved (requests.cancel R r) r to (λ q h. second (is_returning_from q (place_of (requests.cancel R r) r)) (p q) (new q h)))
+      (comes_moved (requests.cancel R r) r to (λ q h. second (is_returning_to q (place_of (requests.cancel R r) r)) (p q) (new q h)))
 
   pub all_returning : {A : Type 0} (qs : List ℕ) (S : State A) → Comes S.requests (fold close_returning S qs).requests
   all_returning [] S = comes_same S.requests S.requests refl
-  all_returning (q ∷ qs) S = comes_then S.requests (close_returning S q).requests (fold close_returning (close_returning S q) qs).requests (comes_closed S.requests (is_returning_from q) refl) (all_returning qs (close_returning S q))
+  all_returning (q ∷ qs) S = comes_then S.requests (close_returning S q).requests (fold close_returning (close_returning S q) qs).requests (comes_closed S.requests (is_returning_to q) refl) (all_returning qs (close_returning S q))
 
   pub all_closed : {A : Type 0} (qs : List ℕ) (S : State A) → Comes S.requests (fold close_queue S qs).requests
   all_closed [] S = comes_same S.requests S.requests refl
@@ -116,14 +116,14 @@ module _ (p : ℕ → Bool) where
 pub powered_same : {A : Type 0} (plan : Plan) (S U : State A) → U.power.devices ≡ S.power.devices → (q : ℕ) → is_powered plan U q ≡ is_powered plan S q
 powered_same plan S U e q = ap (λ (D : List DevicePower). not (is_managed plan q) || (entry no_device_power D (device_of_queue plan q)).up) e
 
-withdrawn_by : (q x : ℕ) (b : Bool) → is_returning_from x (if b then place.Returning (record { 0 = q }) else place.Closing status.Cancelled) ≡ true → (b ≡ true) × (q ≡ x)
+withdrawn_by : (q x : ℕ) (b : Bool) → is_returning_to x (if b then place.Returning (record { 0 = q }) else place.Closing status.Cancelled) ≡ true → (b ≡ true) × (q ≡ x)
 withdrawn_by q x true h = (refl, eqb-true q x h)
 withdrawn_by q x false h = absurd (let z : ⊥ = cc in z)
 
-withdrawn_powered : {A : Type 0} (plan : Plan) (U : State A) (q r x : ℕ) → is_returning_from x (withdrawn_place plan U q r) ≡ true → is_powered plan U x ≡ true
+withdrawn_powered : {A : Type 0} (plan : Plan) (U : State A) (q r x : ℕ) → is_returning_to x (withdrawn_place plan U q r) ≡ true → is_powered plan U x ≡ true
 withdrawn_powered plan U q r x h =
-    let t = withdrawn_by q x ((info_of U.requests r).received && returns_from plan U q) h in
-    let goes : returns_from plan U q ≡ true = both_right (info_of U.requests r).received (returns_from plan U q) t.0 in
+    let t = withdrawn_by q x ((info_of U.requests r).received && returns_to plan U q) h in
+    let goes : returns_to plan U q ≡ true = both_right (info_of U.requests r).received (returns_to plan U q) t.0 in
     let now : is_powered plan U q ≡ true = search both_right in
     subst (λ y. is_powered plan U y ≡ true) t.1 now
 
@@ -148,11 +148,11 @@ given_requests S r = given requests_of (λ S Q P. refl) S r
 
 -- ---- deeds
 
-arrival_off : (p : Place) (q : ℕ) → is_arrival_place p ≡ true → is_returning_from q p ≡ false
+arrival_off : (p : Place) (q : ℕ) → is_arrival_place p ≡ true → is_returning_to q p ≡ false
 arrival_off (place.Returning x) q h = absurd (let z : ⊥ = cc in z)
 arrival_off _ q h = refl
 
-finished_off : (b : Bool) (s : Status) (p : Place) (q : ℕ) → is_returning_from q (finished_at b s p) ≡ true → is_returning_from q p ≡ true
+finished_off : (b : Bool) (s : Status) (p : Place) (q : ℕ) → is_returning_to q (finished_at b s p) ≡ true → is_returning_to q p ≡ true
 finished_off true s p q h = absurd (let z : ⊥ = cc in z)
 finished_off false s p q h = h
 
@@ -160,10 +160,10 @@ module _ {A : Type 0} (plan : Plan) (S : State A) where
   abbrev p : ℕ → Bool
   p = is_powered plan S
 
-  moves_given : (r : ℕ) (to : Place) → ((q : ℕ) → is_returning_from q to ≡ false) → Comes p S.requests (requests.move_to (give_up S r).requests r to)
+  moves_given : (r : ℕ) (to : Place) → ((q : ℕ) → is_returning_to q to ≡ false) → Comes p S.requests (requests.move_to (give_up S r).requests r to)
   moves_given r to off = comes_then p S.requests (give_up S r).requests (requests.move_to (give_up S r).requests r to) (comes_same p S.requests (give_up S r).requests (given_requests S r)) (comes_away p (give_up S r).requests r to off)
 
-  sends : (r : ℕ) (forget : Bool) (to : Place) → ((q : ℕ) → is_returning_from q to ≡ false) → Comes p S.requests (requests.move_to (give_up_if forget S r).requests r to)
+  sends : (r : ℕ) (forget : Bool) (to : Place) → ((q : ℕ) → is_returning_to q to ≡ false) → Comes p S.requests (requests.move_to (give_up_if forget S r).requests r to)
   sends r forget to off =
       comes_then p S.requests (give_up_if forget S r).requests (requests.move_to (give_up_if forget S r).requests r to)
       (comes_same p S.requests (give_up_if forget S r).requests (given_if requests_of (λ S Q P. refl) S forget r)) (comes_away p (give_up_if forget S r).requests r to off)
@@ -195,7 +195,7 @@ module _ {A : Type 0} (plan : Plan) (S : State A) where
   by_deed (SendRequest r t forget) f = sends r.0 forget (place.Sent (record { 0 = t.0 })) (λ q. refl)
   by_deed (FinishSending r s) f =
       comes_moved p S.requests r.0 (finished_at (is_forgotten S.targets r.0) s (place_of S.requests r.0))
-      (λ q h. first (is_returning_from q (place_of S.requests r.0)) (p q) (finished_off (is_forgotten S.targets r.0) s (place_of S.requests r.0) q h))
+      (λ q h. first (is_returning_to q (place_of S.requests r.0)) (p q) (finished_off (is_forgotten S.targets r.0) s (place_of S.requests r.0) q h))
   by_deed (ComeBack r) f = comes_away p S.requests r.0 place.Owned (λ q. refl)
   by_deed (CompleteRequest r) f =
       comes_then p S.requests (requests.complete S.requests r.0) (do_deed plan (CompleteRequest r) S).requests (comes_away p S.requests r.0 place.Done (λ q. refl))

@@ -1,4 +1,4 @@
--- At each place of a run, a request returns from a power-managed queue only while the queues of its device are up.
+-- At each place of a run, a request returns to a power-managed queue only while the queues of its device are up.
 use Rattle.std.proofs.Common.{if◌then◌else◌, ◌≡◌, ◌≢◌, ℕ, Bool, true, false, not, ◌||◌, List, [], ◌∷◌, inl, inr, Option, fold, refl, sym, ap, subst, ◌∙◌}
 use Rattle.std.specs.List.{list_all}
 use Rattle.std.proofs.lemmas.Bool.{cases_Bool}
@@ -12,7 +12,7 @@ use Rattle.wdf_base.specs.declared.event.Stage.TheVariants as stage
 use Rattle.wdf_base.specs.declared.event.Step.TheVariants as step
 use Rattle.wdf_base.specs.declared.value.Status.TheVariants as status
 use Rattle.wdf_base.specs.declared.object.Place.TheVariants as place
-use Rattle.wdf_base.specs.Places.{is_returning_from}
+use Rattle.wdf_base.specs.Places.{is_returning_to}
 use Rattle.wdf_model.specs.declared.entries.Request.{Request}
 use Rattle.wdf_model.specs.Tables.{entry}
 use Rattle.wdf_model.specs.Plans.{device_of_queue, is_managed, managed_queues, queues_of}
@@ -44,7 +44,7 @@ use Rattle.law_trace_settled.proofs.Queues.{of_device, of_each}
 use Rattle.law_trace_settled.proofs.Returning.{Comes, all_closed, all_returning, by_deed, comes_same, powered_same}
 
 abbrev pub ReturnsUp : {A : Type 0} → Plan → State A → Type 0
-ReturnsUp plan S = (r q : ℕ) → is_returning_from q (place_of S.requests r) ≡ true → is_powered plan S q ≡ true
+ReturnsUp plan S = (r q : ℕ) → is_returning_to q (place_of S.requests r) ≡ true → is_powered plan S q ≡ true
 
 -- ---- deeds that leave the power of devices
 
@@ -77,7 +77,7 @@ module _ {A : Type 0} (plan : Plan) where
   deed_returns : (d : Deed) (S : State A) → is_power d ≡ false → fits plan d S ≡ true → Sound plan d S → ReturnsUp plan S → ReturnsUp plan (do_deed plan d S)
   deed_returns d S none fit sound k r q h =
       powered_same plan S (do_deed plan d S) (devices_same plan d S none sound) q
-      ∙ either_is (is_returning_from q (place_of S.requests r)) (is_powered plan S q) (by_deed plan S d fit r q h) (k r q)
+      ∙ either_is (is_returning_to q (place_of S.requests r)) (is_powered plan S q) (by_deed plan S d fit r q h) (k r q)
 
   deeds_return : (ds : List Deed) (S : State A) → none_power ds ≡ true → all_fit plan ds S ≡ true → AllSound plan ds S → ReturnsUp plan S → ReturnsUp plan (do_deeds plan ds S)
   deeds_return [] S none fit sound k = k
@@ -94,25 +94,25 @@ never_is : (b : Bool) (q : ℕ) → (b || never q) ≡ true → b ≡ true
 never_is true q h = refl
 never_is false q h = absurd (let n : false ≡ true = h in let z : ⊥ = cc in z)
 
-closed_not : (q : ℕ) (e : Request) (b : Bool) → is_returning_from q e.place ≡ b → is_returning_from q (if b then moved (place.Closing status.Cancelled) e else e).place ≡ false
+closed_not : (q : ℕ) (e : Request) (b : Bool) → is_returning_to q e.place ≡ b → is_returning_to q (if b then moved (place.Closing status.Cancelled) e else e).place ≡ false
 closed_not q e true h = refl
 closed_not q e false h = h
 
-closed_one : {A : Type 0} (S : State A) (q r : ℕ) → is_returning_from q (place_of (close_returning S q).requests r) ≡ false
+closed_one : {A : Type 0} (S : State A) (q r : ℕ) → is_returning_to q (place_of (close_returning S q).requests r) ≡ false
 closed_one S q r =
-    ap (λ (e : Request). is_returning_from q e.place) (entry_map no_request S.requests.all (closed_at (is_returning_from q)) r refl)
-    ∙ closed_not q (request_of S.requests r) (is_returning_from q (place_of S.requests r)) refl
+    ap (λ (e : Request). is_returning_to q e.place) (entry_map no_request S.requests.all (closed_at (is_returning_to q)) r refl)
+    ∙ closed_not q (request_of S.requests r) (is_returning_to q (place_of S.requests r)) refl
 
--- nothing returns from a queue whose returning requests were closed
-closed_all : {A : Type 0} (qs : List ℕ) (S : State A) (r : ℕ) → list_all (λ q. not (is_returning_from q (place_of (fold close_returning S qs).requests r))) qs ≡ true
+-- nothing returns to a queue to which what returns was closed
+closed_all : {A : Type 0} (qs : List ℕ) (S : State A) (r : ℕ) → list_all (λ q. not (is_returning_to q (place_of (fold close_returning S qs).requests r))) qs ≡ true
 closed_all [] S r = refl
 closed_all (q ∷ qs) S r =
-    both (not (is_returning_from q (place_of (fold close_returning (close_returning S q) qs).requests r))) _
-    (elim (cases_Bool (is_returning_from q (place_of (fold close_returning (close_returning S q) qs).requests r))) [
+    both (not (is_returning_to q (place_of (fold close_returning (close_returning S q) qs).requests r))) _
+    (elim (cases_Bool (is_returning_to q (place_of (fold close_returning (close_returning S q) qs).requests r))) [
       | inr off ↦ rw off refl
       | inl on ↦
-          absurd (let was : is_returning_from q (place_of (close_returning S q).requests r) ≡ true = never_is (is_returning_from q (place_of (close_returning S q).requests r)) q (all_returning never qs (close_returning S q) r q on) in
-          let off : is_returning_from q (place_of (close_returning S q).requests r) ≡ false = closed_one S q r in
+          absurd (let was : is_returning_to q (place_of (close_returning S q).requests r) ≡ true = never_is (is_returning_to q (place_of (close_returning S q).requests r)) q (all_returning never qs (close_returning S q) r q on) in
+          let off : is_returning_to q (place_of (close_returning S q).requests r) ≡ false = closed_one S q r in
           let z : ⊥ = cc in z)
     ])
     (closed_all qs (close_returning S q) r)
@@ -152,14 +152,14 @@ raised P n _ low d h = h
 module _ {A : Type 0} (plan : Plan) (S : State A) (n : ℕ) (j : Option Handle) (k : ReturnsUp plan S) where
   stage_raises : (s : Stage) → is_lowering s ≡ false → (do_deeds plan (stage_deeds plan n s j) S).power.devices ≡ (advance_stage S.power n s).devices → ReturnsUp plan (do_deeds plan (stage_deeds plan n s j) S)
   stage_raises s low same r q h =
-      let was : is_returning_from q (place_of S.requests r) ≡ true = never_is (is_returning_from q (place_of S.requests r)) q (stage_comes plan S n s j r q h) in
+      let was : is_returning_to q (place_of S.requests r) ≡ true = never_is (is_returning_to q (place_of S.requests r)) q (stage_comes plan S n s j r q h) in
       ap (λ D. not (is_managed plan q) || (entry no_device_power D (device_of_queue plan q)).up) same
       ∙ or_more (not (is_managed plan q)) (up_in S.power (device_of_queue plan q)) (up_in (advance_stage S.power n s) (device_of_queue plan q)) (raised S.power n s low (device_of_queue plan q)) (k r q was)
 
   stage_lowers : (do_deeds plan (stage_deeds plan n stage.QueuesDown j) S).power.devices ≡ (advance_stage S.power n stage.QueuesDown).devices → ReturnsUp plan (do_deeds plan (stage_deeds plan n stage.QueuesDown j) S)
   stage_lowers same r q h =
       let U : State A = do_deeds plan (stage_deeds plan n stage.QueuesDown j) S in
-      let was : is_returning_from q (place_of S.requests r) ≡ true = never_is (is_returning_from q (place_of S.requests r)) q (stage_comes plan S n stage.QueuesDown j r q h) in
+      let was : is_returning_to q (place_of S.requests r) ≡ true = never_is (is_returning_to q (place_of S.requests r)) q (stage_comes plan S n stage.QueuesDown j r q h) in
       ap (λ D. not (is_managed plan q) || (entry no_device_power D (device_of_queue plan q)).up) same
       ∙ elim (cases_Bool (is_managed plan q)) [
         | inr off ↦ rw off refl
@@ -170,9 +170,9 @@ module _ {A : Type 0} (plan : Plan) (S : State A) (n : ℕ) (j : Option Handle) 
       elsewhere : is_managed plan q ≡ true → device_of_queue plan q ≢ n
       elsewhere on e =
           let T : State A = do_deed plan (AdvancePower (object_id n) (step.Pass stage.QueuesDown j)) (do_deed plan (TakeStep (object_id n)) S) in
-          let closed : not (is_returning_from q (place_of (fold close_returning T (managed_queues plan n)).requests r)) ≡ true
-          = of_each plan n q (λ x. not (is_returning_from x (place_of (fold close_returning T (managed_queues plan n)).requests r))) (of_device plan n q on e) (closed_all (managed_queues plan n) T r) in
-          let z : false ≡ true = sym (not_true (is_returning_from q (place_of (fold close_returning T (managed_queues plan n)).requests r)) closed) ∙ h in
+          let closed : not (is_returning_to q (place_of (fold close_returning T (managed_queues plan n)).requests r)) ≡ true
+          = of_each plan n q (λ x. not (is_returning_to x (place_of (fold close_returning T (managed_queues plan n)).requests r))) (of_device plan n q on e) (closed_all (managed_queues plan n) T r) in
+          let z : false ≡ true = sym (not_true (is_returning_to q (place_of (fold close_returning T (managed_queues plan n)).requests r)) closed) ∙ h in
           let y : ⊥ = cc in y
 
   stage_returns : (s : Stage) → (do_deeds plan (stage_deeds plan n s j) S).power.devices ≡ (advance_stage S.power n s).devices → ReturnsUp plan (do_deeds plan (stage_deeds plan n s j) S)

@@ -13,7 +13,7 @@ ghost use Rattle.wdf_base.specs.declared.event.Event.{Event};
 ghost use Rattle.wdf_base.specs.declared.event.Event.TheVariants as event;
 ghost use Rattle.wdf_base.specs.declared.event.Stage.TheVariants as stage;
 ghost use Rattle.wdf_model.specs.rules.Ready.{IsRunOf};
-ghost use Rattle.wdf_laws.specs.Laws.{all_acknowledged, acknowledged_before_power_loss};
+ghost use Rattle.wdf_laws.specs.Laws.{all_acknowledged, law_6};
 
 /// In every run of a resolved plan, a device passes `settled` only after each request that is held from a power-managed
 /// queue of it was acknowledged. What is held is as the events before say, and the acknowledgement came after the last
@@ -35,8 +35,8 @@ pub fn runs_exit_after_queues_down<A>()
 
 /// In every run of a resolved plan, each event keeps the sixth law: a device loses power only after each held request was
 /// acknowledged.
-#[tactic(auto, using(crate::proofs::Laws::acknowledged_before_power_loss_at_each))]
+#[tactic(auto, using(crate::proofs::Laws::law_6_at_each))]
 pub fn runs_lose_power_acknowledged<A>()
     ensures { (plan : Plan) (m : Meaning A) (run : List Event) (k : ℕ) (e : Event) → IsResolved plan → IsRunOf plan m run
-        → slice_get run k ≡ Some e → acknowledged_before_power_loss plan (take k run) e ≡ true }
+        → slice_get run k ≡ Some e → law_6 plan (take k run) e ≡ true }
 {}

@@ -2,7 +2,8 @@
 ghost use Rattle.std.specs.Prelude.{◌≡◌, ◌+◌, IfOk, length, map};
 ghost use Rattle.std.specs.List.{range_with_len};
 ghost use Rattle.wdf_base.specs.Resolved.{IsResolved};
-ghost use Rattle.wdf_model.specs.agents.AnyAgent.{AnyAgent, agent_meaning};
+ghost use Rattle.wdf_dev.specs.Agents.{agent_meaning};
+ghost use Rattle.wdf_dev.specs.declared.any.AnyAgent.{AnyAgent};
 
 use std::alloc::Global;
 use std::marker::Model;
@@ -28,7 +29,7 @@ impl<'a> Model for AskedAgent<'a> {
 }
 
 impl Agent for AskedAgent<'_> {
-    ghost use Rattle.wdf_model.specs.agents.AnyAgent.{agent_meaning};
+    ghost use Rattle.wdf_dev.specs.Agents.{agent_meaning};
 
     ghost meaning = { agent_meaning };
 

@@ -72,7 +72,7 @@ fn lists(dpcs: &Dpcs, cpu: Cpu, due: &[ObjectId]) -> bool {
         }
         at += 1;
     }
-    at == dpcs.len(cpu) && dpcs.head(cpu) == due.first().copied()
+    at == dpcs.len(cpu) && dpcs.dpc_head(cpu) == due.first().copied()
 }
 
 /// Does an act; whether it may come, and the answer is the due one.

@@ -39,7 +39,7 @@ impl Part for Interrupts {
         match act {
             Act::Enable(i) if i.0 < OBJECTS => self.enable(i),
             Act::Disable(i) if i.0 < OBJECTS => self.disable(i),
-            Act::IsEnabled(i, due) => return self.enabled(i) == due,
+            Act::IsEnabled(i, due) => return self.is_enabled(i) == due,
             Act::Due(i, line, due) => return self.isr_due(i, line) == due,
             _ => return false,
         }

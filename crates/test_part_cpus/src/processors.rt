@@ -237,7 +237,7 @@ fn are_live(cpus: &Cpus, due: &[u32]) -> bool {
 
 /// Whether so many frames are on an object.
 fn are_on(cpus: &Cpus, o: ObjectId, due: u32) -> bool {
-    cpus.on(o) == due && cpus.nobody_on(o) == (due == 0)
+    cpus.frames_on(o) == due && cpus.nobody_on(o) == (due == 0)
 }
 
 /// Whether what is read of one frame or one processor is as due.

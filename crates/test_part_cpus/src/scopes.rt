@@ -1,10 +1,10 @@
 //! The locks under which callbacks run.
 use std::alloc::Global;
 use std::test::Fail;
-use test_plans::items;
+use test_plans::{PlanBuilder, items};
 use wdf_base::{
     Callback, ClassInfo, Declared, DeferredKind, DeviceInfo, DispatchKind, ExecutionLevel,
-    InterruptInfo, Irql, LockRef, Memory, ObjectId, Plan, PlanBuilder, QueueInfo, Scope, Serves,
+    InterruptInfo, Irql, LockRef, Memory, ObjectId, Plan, QueueInfo, Scope, Serves,
 };
 use wdf_lock::{lock_of_callback, scope_of, scope_of_object};
 

@@ -86,7 +86,7 @@ fn holds(timers: &Timers, due: &[(ObjectId, u64)]) -> bool {
 
 /// The callback of a timer starts, if its tick is reached; whether it is.
 fn fires(timers: &mut Timers, o: ObjectId, now: u64, period: u64) -> bool {
-    let due = now < 1000 && period < 1000 && timers.due(o, now);
+    let due = now < 1000 && period < 1000 && timers.timer_due(o, now);
     if due {
         timers.fired(o, period);
     }
@@ -104,8 +104,8 @@ impl Part for Timers {
             Act::Stop(o, due) => self.stop(o) == due,
             Act::Fire(o, now, period, due) => fires(self, o, now, period) == due,
             Act::IsQueued(o, due) => self.is_timer_queued(o) == due,
-            Act::Due(o, now, due) => self.due(o, now) == due,
-            Act::Next(due) => self.next_time() == due,
+            Act::Due(o, now, due) => self.timer_due(o, now) == due,
+            Act::Next(due) => self.next_timer() == due,
             Act::Later(now, due) => self.any_later_timer(now) == due,
             Act::Holds(due) => holds(self, due),
         }

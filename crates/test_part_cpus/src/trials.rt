@@ -2,7 +2,8 @@
 use crate::{dpcs, interrupts, locks, processors, timers, work_items};
 use std::alloc::Global;
 use std::test::Fail;
-use wdf_base::{Memory, Plan, PlanBuilder};
+use test_plans::PlanBuilder;
+use wdf_base::{Memory, Plan};
 
 /// The name of a case, and the place of what isn't as due in it.
 pub type Wrong = Option<(&'static str, usize)>;

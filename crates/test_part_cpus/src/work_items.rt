@@ -51,7 +51,7 @@ impl Part for WorkItems {
             Act::Enqueue(o, due) => o.0 < OBJECTS && self.enqueue(o) == due,
             Act::Cancel(o, due) => self.cancel(o) == due,
             Act::Holds(due) => holds(self, due),
-            Act::IsQueued(o, due) => self.queued(o) == due,
+            Act::IsQueued(o, due) => self.is_work_queued(o) == due,
         }
     }
 }

@@ -1,5 +1,6 @@
 //! Small plans, each from a list of what it declares.
 use std::alloc::Global;
+use test_plans::PlanBuilder;
 use wdf_base::*;
 
 pub const DRIVER: ObjectId = ObjectId(1);

@@ -179,8 +179,8 @@ static CASES: [Case; 6] = [
 /// Whether a fact holds.
 fn holds(power: &Power, fact: Fact) -> bool {
     match fact {
-        Fact::Powered(d, up, hardware) => power.up(d) == up
-            && power.hardware(d) == hardware,
+        Fact::Powered(d, up, hardware) => power.queues_up(d) == up
+            && power.has_hardware(d) == hardware,
         Fact::Unsettled(count, due) => {
             power.unsettled(DEVICE) == count && power.any_resume_due(DEVICE) == due
         }

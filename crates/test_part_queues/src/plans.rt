@@ -1,10 +1,10 @@
 //! A plan with a device and three queues.
 
 use std::alloc::Global;
-use test_plans::items;
+use test_plans::{PlanBuilder, items};
 use wdf_base::{
     Declared, DeviceInfo, DispatchKind, ExecutionLevel, Handle, Items, MANY, Memory, ObjectId,
-    Plan, PlanBuilder, Post, PostLine, QueueInfo, Scope, Serves,
+    Plan, Post, PostLine, QueueInfo, Scope, Serves,
 };
 
 pub(crate) const DEVICE: ObjectId = ObjectId(2);

@@ -106,7 +106,7 @@ fn waits(queues: &Queues, q: ObjectId, due: &[u32]) -> bool {
     queues.len(q) == at
         && queues.waiting_at(q, at).is_none()
         && queues.is_empty(q) == due.is_empty()
-        && queues.head(q) == queues.waiting_at(q, 0)
+        && queues.front(q) == queues.waiting_at(q, 0)
 }
 
 /// Whether what is read of the queues is as due.
@@ -115,7 +115,7 @@ fn is_so(queues: &Queues, act: Act) -> bool {
         Act::Waiting(q, due) => waits(queues, q, due),
         Act::IsWaiting(r, due) => queues.is_waiting(ObjectId(r)) == due,
         Act::After(r, due) => queues.next_waiting(ObjectId(r)) == due.map(ObjectId),
-        Act::Held(q, due, free) => queues.held(q) == due && queues.free(q) == free,
+        Act::Held(q, due, free) => queues.held_count(q) == due && queues.is_free(q) == free,
         _ => false,
     }
 }

@@ -43,9 +43,9 @@ enum Act {
     Complete,
     /// A request is forgotten.
     Forget(ObjectId),
-    /// What waits in a queue or returns from it is to be completed.
+    /// What waits in a queue or returns to it is to be completed.
     Close(ObjectId),
-    /// What returns from a queue is to be completed.
+    /// What returns to a queue is to be completed.
     CloseReturning(ObjectId),
     /// This holds.
     Is(Fact),
@@ -54,7 +54,7 @@ enum Act {
 /// What is read of the requests, with the answer that is due.
 #[derive(Clone, Copy)]
 enum Fact {
-    /// Whether the request returns from the queue, is sent to the target, and is closing.
+    /// Whether the request returns to the queue, is sent to the target, and is closing.
     Counts(bool, bool, bool),
     /// Whether the request isn't finished.
     Open(bool),
@@ -70,8 +70,8 @@ enum Fact {
 
 /// Whether the request is counted in these.
 fn is_counted(requests: &Requests, returning: bool, sent: bool, closing: bool) -> bool {
-    requests.returns_from(QUEUE) == returning
-        && !requests.returns_from(OTHER)
+    requests.returns_to(QUEUE) == returning
+        && !requests.returns_to(OTHER)
         && requests.sent_to(TARGET) == sent
         && requests.closing_len() == u32::from(closing)
         && requests.closing_at(0).is_some() == closing
@@ -345,7 +345,7 @@ static DUE: [Act; 9] = [
 
 const CLOSING: Act = Act::Is(Fact::At(Place::Closing(Status::Cancelled)));
 
-/// What returns from a queue is to be completed with CANCELLED, and at its purge also what waits
+/// What returns to a queue is to be completed with CANCELLED, and at its purge also what waits
 /// there. What the driver owns, and what is of another queue, stays.
 static CLOSED: [Act; 16] = [
     ARRIVED,

@@ -97,7 +97,7 @@ fn holds_of_one(tree: &Tree, fact: Fact) -> bool {
         }
         Fact::OfClass(o, due) => tree.class(ObjectId(o)) == due,
         Fact::References(o, due) => tree.references(ObjectId(o)) == due,
-        Fact::Cell(o, k, due) => tree.get(ObjectId(o), k) == due,
+        Fact::Cell(o, k, due) => tree.cell_of(ObjectId(o), k) == due,
         Fact::Started(o, callback, due) => tree.started(ObjectId(o), callback) == due,
         _ => false,
     }

@@ -1,11 +1,14 @@
-//! Tests of plans over texts: what is in the plan of the scene that a text stands for. Which texts have no plan, and why, are rows of
-//! `./test`.
+//! Tests of plans over texts: what `resolve` answers to the scene that a text stands for.
 #![tactic(auto)]
 
 #[cfg(test)]
 mod answers;
 #[cfg(test)]
+mod bounds;
+#[cfg(test)]
 mod callbacks;
+#[cfg(test)]
+mod refusals;
 #[cfg(test)]
 mod second_posts;
 #[cfg(test)]

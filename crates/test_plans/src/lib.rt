@@ -1,6 +1,8 @@
-//! Plans for tests: lists as plans have them.
+//! Plans for tests: a builder of plans, and lists as plans have them.
 #![tactic(auto)]
 
 mod lists;
+mod plan_builder;
 
 pub use lists::items;
+pub use plan_builder::PlanBuilder;

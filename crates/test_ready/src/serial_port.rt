@@ -1,6 +1,6 @@
 //! The worked run of the serial port. After each of its events the core says that as many may follow as the definitions compute.
 ghost use Rattle.std.specs.Prelude.{◌≡◌, length};
-ghost use Rattle.wdf_model.specs.agents.AnyAgent.{agent_meaning};
+ghost use Rattle.wdf_dev.specs.Agents.{agent_meaning};
 ghost use Rattle.wdf_model.specs.rules.Ready.{ready};
 
 use crate::opening::{opening_of, plan_of};

@@ -1,6 +1,11 @@
-//! Tests of scenes, of words and of the two builders. What a text is answered is a row of `./test`.
+//! Tests of scenes and of the two builders, of the reading and printing of a scenario's text, and of the
+//! generated scenario.
 #![tactic(auto)]
 
+#[cfg(test)]
+mod generated;
+#[cfg(test)]
+mod parsing;
 #[cfg(test)]
 mod plans;
 #[cfg(test)]

@@ -1,10 +1,11 @@
 //! A plan gives back what it was made from.
 use std::alloc::Global;
 use std::test::Fail;
+use test_plans::PlanBuilder;
 use wdf_base::{
     Access, Act, Action, Ask, Callback, ClassInfo, Declared, DeviceInfo, DispatchKind,
-    ExecutionLevel, ExprNode, Handle, Memory, Name, ObjectId, PlainKind, Plan, PlanBuilder, Post,
-    PostLine, QueueInfo, RegisterInfo, Scope, Serves, Statement, Status, WhenLine,
+    ExecutionLevel, ExprNode, Handle, Memory, Name, ObjectId, PlainKind, Plan, Post, PostLine,
+    QueueInfo, RegisterInfo, Scope, Serves, Statement, Status, WhenLine,
 };
 
 /// The one part of a plan.
@@ -163,7 +164,10 @@ fn plan_with(alloc: Global, part: &Part) -> Result<Plan, Memory> {
 
 /// Whether the one object of the plan is this.
 fn has_object(plan: &Plan, object: Declared, name: u32) -> bool {
-    plan.declared_len() == 1 && plan.declared(ObjectId(1)) == object && object.name() == Some(name)
+    plan.declared_len() == 1
+        && plan.declared(ObjectId(1)) == object
+        && plan.object_named(name) == Some(ObjectId(1))
+        && plan.object_named(6).is_none()
 }
 
 /// Whether the one post of an agent is this.

@@ -7,8 +7,23 @@ use wdf_io::{MemSink, MemSource};
 use wdf_serve::top;
 use wdf_turn::Gate;
 
-/// The most bytes that one read gives.
-const PIECE: usize = 4096;
+/// What the outside does.
+#[derive(Clone, Copy)]
+pub struct Outside {
+    /// The most bytes that one read gives.
+    pub piece: usize,
+    /// The read that fails, counted from 1; 0 where none does.
+    pub read_fails: u64,
+    /// The write that fails, counted from 1; 0 where none does.
+    pub write_fails: u64,
+}
+
+/// An outside that doesn't fail.
+pub const STEADY: Outside = Outside {
+    piece: 4096,
+    read_fails: 0,
+    write_fails: 0,
+};
 
 /// The bytes that the sink can hold.
 const ROOM: usize = 65_536;
@@ -30,14 +45,16 @@ pub fn words_of(alloc: Global, words: &str) -> Result<Vec<String>, Memory> {
 }
 
 /// A source of an input.
-pub fn source_of(alloc: Global, input: &[u8]) -> Result<MemSource, Memory> {
+pub fn source_of(alloc: Global, input: &[u8], outside: Outside) -> Result<MemSource, Memory> {
     let input = Vec::from_slice(alloc, input)?;
-    Ok(MemSource::new(input, Vec::new(alloc), PIECE))
+    let fails = Vec::from_slice(alloc, &[outside.read_fails])?;
+    Ok(MemSource::new(input, fails, outside.piece.max(1)))
 }
 
 /// An empty sink.
-pub fn sink_for(alloc: Global) -> Result<MemSink, Memory> {
-    MemSink::new(alloc, ROOM, Vec::new(alloc))
+pub fn sink_for(alloc: Global, outside: Outside) -> Result<MemSink, Memory> {
+    let fails = Vec::from_slice(alloc, &[outside.write_fails])?;
+    MemSink::new(alloc, ROOM, fails)
 }
 
 /// The status that the program ends with over a source and a sink.
@@ -73,10 +90,11 @@ pub fn call<R: Threads + Wait + Sync, G: Gate + Sync>(
     alloc: Global,
     words: &str,
     input: &[u8],
+    outside: Outside,
     gate: &G,
 ) -> Result<(u8, MemSink), Memory> {
-    let mut sink = sink_for(alloc)?;
-    let source = source_of(alloc, input)?;
+    let mut sink = sink_for(alloc, outside)?;
+    let source = source_of(alloc, input, outside)?;
     let status = status_of(rt, alloc, words, source, &mut sink, gate)?;
     Ok((status, sink))
 }

@@ -3,7 +3,8 @@ ghost use Rattle.std.specs.Prelude.{◌≡◌, ◌≢◌, ◌+◌, IfOk, IfSome,
 ghost use Rattle.std.specs.List.{range_with_len};
 ghost use Rattle.wdf_base.specs.Resolved.{IsResolved};
 ghost use Rattle.wdf_base.specs.declared.event.Ending.TheVariants as ending;
-ghost use Rattle.wdf_model.specs.agents.AnyAgent.{AnyAgent, agent_meaning};
+ghost use Rattle.wdf_dev.specs.Agents.{agent_meaning};
+ghost use Rattle.wdf_dev.specs.declared.any.AnyAgent.{AnyAgent};
 
 use std::alloc::Global;
 use std::marker::Model;
@@ -31,7 +32,7 @@ impl<'a> Model for CountedAgent<'a> {
 }
 
 impl Agent for CountedAgent<'_> {
-    ghost use Rattle.wdf_model.specs.agents.AnyAgent.{agent_meaning};
+    ghost use Rattle.wdf_dev.specs.Agents.{agent_meaning};
 
     ghost meaning = { agent_meaning };
 

@@ -1,5 +1,5 @@
 //! Tests of threads: the turnstile, over a value that is a list of events; that the workers of a run do the work; the
-//! words `run` and `watch` through the top call. No test rests on the order in which the threads get on.
+//! word `run` through the top call. No test rests on the order in which the threads get on.
 //!
 //! # Choices
 //!
@@ -13,12 +13,18 @@ mod alone;
 #[cfg(test)]
 mod call;
 #[cfg(test)]
+mod faults;
+#[cfg(test)]
 mod fed;
 mod holds;
 mod log;
 mod pair;
 #[cfg(test)]
 mod rounds;
+#[cfg(test)]
+mod rows;
+#[cfg(test)]
+mod runs;
 mod scenario;
 #[cfg(test)]
 mod texts;
@@ -26,6 +32,8 @@ mod texts;
 mod top_workers;
 #[cfg(test)]
 mod watching;
+#[cfg(test)]
+mod words;
 #[cfg(test)]
 mod workers;
 

@@ -1,5 +1,5 @@
 //! The workers of a run are threads: two of them are there at once.
-use crate::call::call;
+use crate::call::{STEADY, call};
 use crate::{DEVICE_SCOPE, TwoEnter, Watch};
 use std::alloc::Global;
 use std::sync::Wait;
@@ -14,7 +14,7 @@ fn comes_out<R: Threads + Wait + Sync>(
     alloc: Global,
     watch: &Watch,
 ) -> Result<bool, Memory> {
-    match call(rt, alloc, "run", DEVICE_SCOPE, &TwoEnter(watch)) {
+    match call(rt, alloc, "run", DEVICE_SCOPE, STEADY, &TwoEnter(watch)) {
         Ok((status, sink)) => Ok(status == 0 && sink.written().ends_with(b"\nfinished 14\n")),
         Err(memory) => Err(memory),
     }

@@ -40,11 +40,13 @@ const TARGET: TargetInfo = TargetInfo {
     depth: 4,
 };
 
-/// Whether ids, statuses, callbacks and scopes are told apart.
+/// Whether ids, levels, statuses, callbacks and scopes are told apart.
 fn words_are_apart() -> bool {
     let passive = ExecutionLevel::Passive;
     same_object_id(ObjectId(3), ObjectId(3))
         && !same_object_id(ObjectId(3), ObjectId(4))
+        && same_irql(Irql(3), Irql(3))
+        && !same_irql(Irql(3), Irql(4))
         && same_status(Status::WdfBusy, Status::WdfBusy)
         && !same_status(Status::WdfBusy, Status::WdfPaused)
         && same_callback(Callback::EvtIoStop, Callback::EvtIoStop)

@@ -159,7 +159,10 @@ fn names_are_read(plan: &Plan) -> bool {
 
 /// Whether the objects are read.
 fn objects_are_read(plan: &Plan) -> bool {
-    plan.declared_len() == 2 && plan.declared(ObjectId(2)) == DEVICE
+    plan.declared_len() == 2
+        && plan.declared(ObjectId(2)) == DEVICE
+        && plan.object_named(1) == Some(ObjectId(2))
+        && plan.object_named(7).is_none()
 }
 
 /// Whether the classes, the registers and the `when` lines are read.

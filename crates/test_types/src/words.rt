@@ -222,6 +222,18 @@ fn words_are_those_of_the_text(rt: HostRuntime) {
     assert!(rt; others_are_none() && have_sorts());
 }
 
+/// The laws are functions without a body: a caller gets their clauses.
+#[test]
+fn laws_of_words_may_be_used(_rt: HostRuntime) {
+    let word = b"closed";
+    status_words(Status::Success, word);
+    callback_words(Callback::EvtIoRead, word);
+    call_words(CallKind::GetContext, word);
+    fault_words(Fault::NotOwned, word);
+    stage_words(Stage::Closed, word);
+    ask_words(Ask::Wake, word);
+}
+
 /// Whether names are told apart as keys of a map, and the last number of a name counts.
 fn are_keys(alloc: Global) -> bool {
     let longest = Name::new(b"abcdefghijklmnopqrstuvwxyz_12345");

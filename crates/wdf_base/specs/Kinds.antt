@@ -1,5 +1,5 @@
 -- The kinds and the names of what a plan declares.
-use Rattle.std.specs.Prelude.{ℕ, Option, Some, None}
+use Rattle.std.specs.Prelude.{ℕ, Bool, ◌==◌, Option, Some, None}
 use Rattle.wdf_base.specs.declared.object.Kind.{Kind}
 use Rattle.wdf_base.specs.declared.object.Kind.TheVariants as kind
 use Rattle.wdf_base.specs.declared.declared.Declared.{Declared}
@@ -10,6 +10,7 @@ use Rattle.wdf_base.specs.declared.declared.DeferredKind.{DeferredKind}
 use Rattle.wdf_base.specs.declared.declared.DeferredKind.TheVariants as deferred
 use Rattle.wdf_base.specs.declared.declared.ClassInfo.{ClassInfo}
 use Rattle.wdf_base.specs.declared.declared.ClassInfo.TheVariants as class
+use Rattle.wdf_base.specs.Same.{same_option}
 
 -- the kind of a declared object; a class says its own
 abbrev pub declared_kind : Declared → Option Kind
@@ -28,6 +29,10 @@ declared_name (declared.Queue q) = Some q.name
 declared_name (declared.Interrupt i) = Some i.name
 declared_name (declared.Target t) = Some t.name
 declared_name (declared.OfClass c) = None
+
+-- a declared object has this name
+abbrev pub has_name : ℕ → Declared → Bool
+has_name n d = same_option ◌==◌ (declared_name d) (Some n)
 
 -- the kind of the objects of a class that has no parent
 abbrev pub plain_kind : PlainKind → Kind

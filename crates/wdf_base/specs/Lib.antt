@@ -1,13 +1,10 @@
 pub mod Callbacks
 pub mod Calls
-pub mod Changed
-pub mod Events
 pub mod Items
 pub mod Kinds
 pub mod Meaning
 pub mod Name
 pub mod Plan
-pub mod PlanBuilding
 pub mod Resolved
 pub mod Same
 pub mod SamePlan

@@ -32,9 +32,9 @@ is_sent_to t (place.Sent u) = u.0 == t
 is_sent_to t _ = false
 
 -- whether a request at this place was cancelled in queue q and has EvtIoCanceledOnQueue due there (KMDF)
-abbrev pub is_returning_from : ℕ → Place → Bool
-is_returning_from q (place.Returning p) = p.0 == q
-is_returning_from q _ = false
+abbrev pub is_returning_to : ℕ → Place → Bool
+is_returning_to q (place.Returning p) = p.0 == q
+is_returning_to q _ = false
 
 -- whether a request at this place waits in queue q
 abbrev pub is_queued_in : ℕ → Place → Bool

@@ -1,5 +1,5 @@
 -- What a plan says, by number.
-use Rattle.std.specs.Prelude.{ℕ, zero, suc, Bool, ◌&&◌, List, [], Option, Some, None, position, slice_get}
+use Rattle.std.specs.Prelude.{ℕ, zero, suc, Bool, ◌&&◌, List, [], Option, Some, None, position, slice_get, option_map}
 use Rattle.wdf_base.specs.declared.call.Callback.{Callback}
 use Rattle.wdf_base.specs.declared.declared.Declared.{Declared}
 use Rattle.wdf_base.specs.declared.declared.PostLine.{PostLine}
@@ -7,6 +7,7 @@ use Rattle.wdf_base.specs.declared.script.AgentInfo.{AgentInfo}
 use Rattle.wdf_base.specs.declared.script.Script.{Script}
 use Rattle.wdf_base.specs.declared.script.Statement.{Statement}
 use Rattle.wdf_base.specs.declared.plan.Plan.{Plan}
+use Rattle.wdf_base.specs.Kinds.{has_name}
 use Rattle.wdf_base.specs.Same.{same_callback}
 use Rattle.wdf_base.specs.SamePlan.{same_declared}
 
@@ -46,3 +47,7 @@ is_script_of callback owner s = same_callback s.callback callback && same_declar
 -- the number of the script of this callback on this object
 abbrev pub script_of : Plan → Callback → Declared → Option ℕ
 script_of plan callback owner = position (is_script_of callback owner) plan.scripts
+
+-- the id of the declared object with this name
+abbrev pub object_named : Plan → ℕ → Option ℕ
+object_named plan n = option_map suc (position (has_name n) plan.declared)

@@ -214,6 +214,16 @@ impl Declared {
             Declared::OfClass(_) => None,
         }
     }
+
+    /// Whether the object has this name.
+    pub fn has_name(&self, name: u32) -> bool
+        ensures { result ≡ kinds.has_name name self.now }
+    {
+        match self.name() {
+            Some(own) => own == name,
+            None => false,
+        }
+    }
 }
 
 impl PlainKind {

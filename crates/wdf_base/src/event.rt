@@ -14,7 +14,6 @@
 //! - **Which number does a cancel carry?** `arrival`, the number of the arrival among the app's own, from 1, as its
 //!   line prints it (64 bits, as any number of the text).
 ghost use Rattle.std.specs.Prelude.{◌≡◌};
-ghost use Rattle.wdf_base.specs.Events as events;
 ghost use Rattle.wdf_base.specs.Posts as posts;
 ghost use Rattle.wdf_base.specs.Stages as stages;
 
@@ -270,34 +269,6 @@ pub enum Event {
     Tick {
         time: u64,
     },
-}
-
-impl Event {
-    /// The processor on which it is a step, if it is one of a processor.
-    pub fn cpu(&self) -> Option<Cpu>
-        ensures { result ≡ events.event_cpu self.now }
-    {
-        match self {
-            Event::Start { cpu, .. }
-            | Event::Local { cpu, .. }
-            | Event::Log { cpu, .. }
-            | Event::Spend { cpu, .. }
-            | Event::Register { cpu, .. }
-            | Event::Did { cpu, .. }
-            | Event::Waiting { cpu, .. }
-            | Event::Woke { cpu, .. }
-            | Event::Park { cpu, .. }
-            | Event::Unpark { cpu, .. }
-            | Event::End { cpu, .. }
-            | Event::Fault { cpu, .. } => Some(*cpu),
-            Event::Stage { .. }
-            | Event::Complete { .. }
-            | Event::Cleanup { .. }
-            | Event::Destroy { .. }
-            | Event::Posted { .. }
-            | Event::Tick { .. } => None,
-        }
-    }
 }
 
 /// A mistake of the driver that ends the run.

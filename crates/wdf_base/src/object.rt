@@ -87,7 +87,7 @@ impl Life {
 pub enum Place {
     /// In the waiting list of a queue.
     Queued(ObjectId),
-    /// Returning from a queue: out of its waiting list, and its EvtIoCanceledOnQueue is due for it.
+    /// Out of the waiting list of a queue, whose EvtIoCanceledOnQueue is due for it.
     Returning(ObjectId),
     /// To be completed by the framework with this status.
     Closing(Status),
@@ -139,8 +139,8 @@ impl Place {
     }
 
     /// Whether the request was cancelled in this queue, and EvtIoCanceledOnQueue is due for it there. (KMDF)
-    pub fn is_returning_from(self, queue: ObjectId) -> bool
-        ensures { result ≡ places.is_returning_from queue.0 self }
+    pub fn is_returning_to(self, queue: ObjectId) -> bool
+        ensures { result ≡ places.is_returning_to queue.0 self }
     {
         match self {
             Place::Returning(other) => other.0 == queue.0,

@@ -8,8 +8,11 @@
 //!   id; each is added by the number of its name. The lines `at` of a device are its posts, and a target has none.
 //! - **By what is a script found?** By its callback and the whole of what it is declared on; no two scripts of a
 //!   resolved plan agree in both.
+//! - **What is the plan's second reader of names?** `object_named` finds the declared object with a name's number.
+//!   Only tests call it.
 ghost use Rattle.std.specs.Prelude.{◌≡◌, ◌+◌, ◌<◌, ◌≤◌, length, Some, IfSome, position, slice_get, option_map};
-ghost use Rattle.wdf_base.specs.Plan.{declared_of, posts_of, statements_of, script_of, agent_of, is_script_of};
+ghost use Rattle.wdf_base.specs.Plan.{declared_of, posts_of, statements_of, script_of, agent_of, is_script_of, object_named};
+ghost use Rattle.wdf_base.specs.Kinds.{has_name};
 
 use crate::call::Callback;
 use crate::declared::{ClassInfo, Declared, PostLine, RegisterInfo, WhenLine};
@@ -129,6 +132,14 @@ impl Plan {
         ensures { declared_of self.now o.0 ≡ Some result }
     {
         self.declared.get(o.0 - 1)
+    }
+
+    /// The id of the declared object whose name has this number, if there is one.
+    pub fn object_named(&self, name: u32) -> Option<ObjectId>
+        ensures { option_map (λ o. o.0) result ≡ object_named self.now name }
+    {
+        let found = find_named(self.declared.as_slice(), name);
+        found.map(|k| ObjectId(k as u32 + 1))
     }
 
     /// How many classes there are.
@@ -308,4 +319,12 @@ fn find_script(scripts: &[Script], callback: Callback, owner: &Declared) -> Opti
     scripts
         .iter()
         .position(|script| script.is_of(callback, owner))
+}
+
+// The place of the declared object with a name.
+fn find_named(declared: &[Declared], name: u32) -> Option<usize>
+    ensures value { result ≡ position (has_name name) declared.now }
+    ensures small { IfSome result (λ k. k < length declared.now) }
+{
+    declared.iter().position(|object| object.has_name(name))
 }

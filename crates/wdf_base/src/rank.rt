@@ -7,10 +7,6 @@
 //!   callbacks with different rows.
 ghost use Rattle.std.specs.Prelude.{◌≡◌};
 ghost use Rattle.wdf_base.specs.Callbacks as table;
-ghost use Rattle.wdf_base.specs.declared.object.Kind.TheVariants as kinds;
-ghost use Rattle.wdf_base.specs.declared.rank.CallbackLevel.TheVariants as levels;
-ghost use Rattle.wdf_base.specs.declared.rank.CallbackLock.TheVariants as locks;
-ghost use Rattle.wdf_base.specs.declared.rank.Owner.TheVariants as owners;
 
 use crate::call::Callback;
 use crate::ids::Irql;
@@ -88,13 +84,6 @@ pub struct CallbackRow {
     pub lock: CallbackLock,
 }
 
-/// PASSIVE_LEVEL.
-const PASSIVE: CallbackLevel = CallbackLevel::Level(Irql(0));
-
-/// DISPATCH_LEVEL.
-const DISPATCH: CallbackLevel = CallbackLevel::Level(Irql(2));
-
-/// A row, of its four parts.
 fn callback_row(rank: Rank, owner: Owner, level: CallbackLevel, lock: CallbackLock) -> CallbackRow
     ensures { result ≡ table.callback_row rank owner level lock }
 {
@@ -106,86 +95,208 @@ fn callback_row(rank: Rank, owner: Owner, level: CallbackLevel, lock: CallbackLo
     }
 }
 
-/// The row of a callback of an interrupt that runs at the interrupt's level, under its lock.
-fn of_interrupt(rank: Rank) -> CallbackRow
-    ensures { result ≡ table.callback_row rank (owners.Of kinds.Interrupt) levels.OfInterrupt locks.InterruptLock }
-{
-    callback_row(
-        rank,
-        Owner::Of(Kind::Interrupt),
-        CallbackLevel::OfInterrupt,
-        CallbackLock::InterruptLock,
-    )
-}
-
-/// The row of a callback of a queue.
-fn of_queue(rank: Rank) -> CallbackRow
-    ensures { result ≡ table.callback_row rank (owners.Of kinds.Queue) levels.OfQueue locks.QueueLock }
-{
-    callback_row(
-        rank,
-        Owner::Of(Kind::Queue),
-        CallbackLevel::OfQueue,
-        CallbackLock::QueueLock,
-    )
-}
-
-/// The row of a callback of a device.
-fn of_device(rank: Rank) -> CallbackRow
-    ensures { result ≡ table.callback_row rank (owners.Of kinds.Device) (levels.Level (record { 0 = 0 })) locks.NoLock }
-{
-    callback_row(rank, Owner::Of(Kind::Device), PASSIVE, CallbackLock::NoLock)
-}
-
 impl Callback {
     /// When the callback comes, on what, how high and under which lock.
     pub fn row(self) -> CallbackRow
         ensures { result ≡ table.row_of self }
     {
-        use CallbackLock::{NoLock, ParentScope};
-        use Kind::{Dpc, Interrupt, Target, Timer, WorkItem};
+        use CallbackLevel::{Level, OfInterrupt, OfQueue};
+        use CallbackLock::{InterruptLock, NoLock, ParentScope, QueueLock};
         use Owner::{ClassOrDevice, Of};
-        use Rank::{
-            Cancel, CanceledOnQueue, Cleanup, Completion, Deferred, Destroy, Handler, Isr,
-            QueueState, Resume, Sequence, Stop, Timed, Work,
-        };
         match self {
-            Self::EvtInterruptIsr => of_interrupt(Isr),
-            Self::EvtDpcFunc => callback_row(Deferred, Of(Dpc), DISPATCH, ParentScope),
-            Self::EvtInterruptDpc => callback_row(Deferred, Of(Interrupt), DISPATCH, NoLock),
-            Self::EvtTimerFunc => callback_row(Timed, Of(Timer), DISPATCH, ParentScope),
-            Self::EvtRequestCompletion => callback_row(Completion, Of(Target), DISPATCH, NoLock),
-            Self::EvtRequestCancel => of_queue(Cancel),
-            Self::EvtIoCanceledOnQueue => of_queue(CanceledOnQueue),
-            Self::EvtIoStop => of_queue(Stop),
-            Self::EvtIoResume => of_queue(Resume),
-            Self::EvtIoQueueState => of_queue(QueueState),
-            Self::EvtIoRead => of_queue(Handler),
-            Self::EvtIoWrite => of_queue(Handler),
-            Self::EvtIoDeviceControl => of_queue(Handler),
-            Self::EvtIoDefault => of_queue(Handler),
-            Self::EvtDevicePrepareHardware => of_device(Sequence),
-            Self::EvtDeviceReleaseHardware => of_device(Sequence),
-            Self::EvtDeviceD0Entry => of_device(Sequence),
-            Self::EvtDeviceD0EntryPostInterruptsEnabled => of_device(Sequence),
-            Self::EvtDeviceD0ExitPreInterruptsDisabled => of_device(Sequence),
-            Self::EvtDeviceD0Exit => of_device(Sequence),
-            Self::EvtDeviceSelfManagedIoInit => of_device(Sequence),
-            Self::EvtDeviceSelfManagedIoRestart => of_device(Sequence),
-            Self::EvtDeviceSelfManagedIoSuspend => of_device(Sequence),
-            Self::EvtDeviceSelfManagedIoFlush => of_device(Sequence),
-            Self::EvtDeviceSelfManagedIoCleanup => of_device(Sequence),
-            Self::EvtDeviceQueryStop => of_device(Sequence),
-            Self::EvtDeviceQueryRemove => of_device(Sequence),
-            Self::EvtDeviceSurpriseRemoval => of_device(Sequence),
-            Self::EvtInterruptEnable => of_interrupt(Sequence),
-            Self::EvtInterruptDisable => of_interrupt(Sequence),
-            Self::EvtWorkItem => callback_row(Work, Of(WorkItem), PASSIVE, ParentScope),
-            Self::EvtCleanupCallback => callback_row(Cleanup, ClassOrDevice, PASSIVE, NoLock),
-            Self::EvtDestroyCallback => callback_row(Destroy, ClassOrDevice, PASSIVE, NoLock),
+            Callback::EvtInterruptIsr => callback_row(
+                Rank::Isr,
+                Of(Kind::Interrupt),
+                OfInterrupt,
+                InterruptLock,
+            ),
+            Callback::EvtDpcFunc => callback_row(
+                Rank::Deferred,
+                Of(Kind::Dpc),
+                Level(Irql(2)),
+                ParentScope,
+            ),
+            Callback::EvtInterruptDpc => callback_row(
+                Rank::Deferred,
+                Of(Kind::Interrupt),
+                Level(Irql(2)),
+                NoLock,
+            ),
+            Callback::EvtTimerFunc => callback_row(
+                Rank::Timed,
+                Of(Kind::Timer),
+                Level(Irql(2)),
+                ParentScope,
+            ),
+            Callback::EvtRequestCompletion => callback_row(
+                Rank::Completion,
+                Of(Kind::Target),
+                Level(Irql(2)),
+                NoLock,
+            ),
+            Callback::EvtRequestCancel => callback_row(
+                Rank::Cancel,
+                Of(Kind::Queue),
+                OfQueue,
+                QueueLock,
+            ),
+            Callback::EvtIoCanceledOnQueue => callback_row(
+                Rank::CanceledOnQueue,
+                Of(Kind::Queue),
+                OfQueue,
+                QueueLock,
+            ),
+            Callback::EvtIoStop => callback_row(Rank::Stop, Of(Kind::Queue), OfQueue, QueueLock),
+            Callback::EvtIoResume => callback_row(
+                Rank::Resume,
+                Of(Kind::Queue),
+                OfQueue,
+                QueueLock,
+            ),
+            Callback::EvtIoQueueState => callback_row(
+                Rank::QueueState,
+                Of(Kind::Queue),
+                OfQueue,
+                QueueLock,
+            ),
+            Callback::EvtIoRead => callback_row(Rank::Handler, Of(Kind::Queue), OfQueue, QueueLock),
+            Callback::EvtIoWrite => callback_row(
+                Rank::Handler,
+                Of(Kind::Queue),
+                OfQueue,
+                QueueLock,
+            ),
+            Callback::EvtIoDeviceControl => callback_row(
+                Rank::Handler,
+                Of(Kind::Queue),
+                OfQueue,
+                QueueLock,
+            ),
+            Callback::EvtIoDefault => callback_row(
+                Rank::Handler,
+                Of(Kind::Queue),
+                OfQueue,
+                QueueLock,
+            ),
+            Callback::EvtDevicePrepareHardware => callback_row(
+                Rank::Sequence,
+                Of(Kind::Device),
+                Level(Irql(0)),
+                NoLock,
+            ),
+            Callback::EvtDeviceReleaseHardware => callback_row(
+                Rank::Sequence,
+                Of(Kind::Device),
+                Level(Irql(0)),
+                NoLock,
+            ),
+            Callback::EvtDeviceD0Entry => callback_row(
+                Rank::Sequence,
+                Of(Kind::Device),
+                Level(Irql(0)),
+                NoLock,
+            ),
+            Callback::EvtDeviceD0EntryPostInterruptsEnabled => callback_row(
+                Rank::Sequence,
+                Of(Kind::Device),
+                Level(Irql(0)),
+                NoLock,
+            ),
+            Callback::EvtDeviceD0ExitPreInterruptsDisabled => callback_row(
+                Rank::Sequence,
+                Of(Kind::Device),
+                Level(Irql(0)),
+                NoLock,
+            ),
+            Callback::EvtDeviceD0Exit => callback_row(
+                Rank::Sequence,
+                Of(Kind::Device),
+                Level(Irql(0)),
+                NoLock,
+            ),
+            Callback::EvtDeviceSelfManagedIoInit => callback_row(
+                Rank::Sequence,
+                Of(Kind::Device),
+                Level(Irql(0)),
+                NoLock,
+            ),
+            Callback::EvtDeviceSelfManagedIoRestart => callback_row(
+                Rank::Sequence,
+                Of(Kind::Device),
+                Level(Irql(0)),
+                NoLock,
+            ),
+            Callback::EvtDeviceSelfManagedIoSuspend => callback_row(
+                Rank::Sequence,
+                Of(Kind::Device),
+                Level(Irql(0)),
+                NoLock,
+            ),
+            Callback::EvtDeviceSelfManagedIoFlush => callback_row(
+                Rank::Sequence,
+                Of(Kind::Device),
+                Level(Irql(0)),
+                NoLock,
+            ),
+            Callback::EvtDeviceSelfManagedIoCleanup => callback_row(
+                Rank::Sequence,
+                Of(Kind::Device),
+                Level(Irql(0)),
+                NoLock,
+            ),
+            Callback::EvtDeviceQueryStop => callback_row(
+                Rank::Sequence,
+                Of(Kind::Device),
+                Level(Irql(0)),
+                NoLock,
+            ),
+            Callback::EvtDeviceQueryRemove => callback_row(
+                Rank::Sequence,
+                Of(Kind::Device),
+                Level(Irql(0)),
+                NoLock,
+            ),
+            Callback::EvtDeviceSurpriseRemoval => callback_row(
+                Rank::Sequence,
+                Of(Kind::Device),
+                Level(Irql(0)),
+                NoLock,
+            ),
+            Callback::EvtInterruptEnable => callback_row(
+                Rank::Sequence,
+                Of(Kind::Interrupt),
+                OfInterrupt,
+                InterruptLock,
+            ),
+            Callback::EvtInterruptDisable => callback_row(
+                Rank::Sequence,
+                Of(Kind::Interrupt),
+                OfInterrupt,
+                InterruptLock,
+            ),
+            Callback::EvtWorkItem => callback_row(
+                Rank::Work,
+                Of(Kind::WorkItem),
+                Level(Irql(0)),
+                ParentScope,
+            ),
+            Callback::EvtCleanupCallback => callback_row(
+                Rank::Cleanup,
+                ClassOrDevice,
+                Level(Irql(0)),
+                NoLock,
+            ),
+            Callback::EvtDestroyCallback => callback_row(
+                Rank::Destroy,
+                ClassOrDevice,
+                Level(Irql(0)),
+                NoLock,
+            ),
         }
     }
+}
 
+impl Callback {
     /// Whether it is on an interrupt, and runs with the interrupt's lock held. (KMDF)
     pub fn takes_interrupt_lock(self) -> bool
         ensures { result ≡ table.takes_interrupt_lock self }

@@ -8,9 +8,8 @@
 //!   `WdfRequestSend` up to 1, the action of `WdfIoTargetStop` up to 2) are sorts too; other flags are any number.
 //! - **How does a level depend on an argument?** `DispatchIf(n)`: 2 where the second argument is the number n, else
 //!   0. It serves the flag 0 of two calls and the action 2 of one.
-ghost use Rattle.std.specs.Prelude.{◌≡◌, ◌≤◌, false, true};
+ghost use Rattle.std.specs.Prelude.{◌≡◌, ◌≤◌};
 ghost use Rattle.wdf_base.specs.Calls as calls;
-ghost use Rattle.wdf_base.specs.declared.signature.Sort.TheVariants as sorts;
 
 use crate::call::CallKind;
 use crate::ids::Irql;
@@ -58,39 +57,15 @@ pub struct Signature {
     pub cleaned: bool,
 }
 
-/// PASSIVE_LEVEL.
-const PASSIVE: CallLevel = CallLevel::AtMost(Irql(0));
-
-/// Up to DISPATCH_LEVEL.
-const DISPATCH: CallLevel = CallLevel::AtMost(Irql(2));
-
-/// Up to the highest level of an interrupt.
-const HIGHEST: CallLevel = CallLevel::AtMost(Irql(12));
-
-/// The row of a call with one argument.
-fn one(level: CallLevel, a: Sort) -> Signature
-    ensures { result ≡ calls.row level a sorts.Absent sorts.Absent false }
-{
-    two(level, a, Sort::Absent)
-}
-
-/// The row of a call with two arguments.
-fn two(level: CallLevel, a: Sort, b: Sort) -> Signature
-    ensures { result ≡ calls.row level a b sorts.Absent false }
-{
-    three(level, a, b, Sort::Absent)
-}
-
-/// The row of a call with three arguments.
-fn three(level: CallLevel, a: Sort, b: Sort, c: Sort) -> Signature
-    ensures { result ≡ calls.row level a b c false }
+fn row(level: CallLevel, a: Sort, b: Sort, c: Sort, cleaned: bool) -> Signature
+    ensures { result ≡ calls.row level a b c cleaned }
 {
     Signature {
         level,
         a,
         b,
         c,
-        cleaned: false,
+        cleaned,
     }
 }
 
@@ -118,63 +93,297 @@ impl CallKind {
                 | CallKind::WdfInterruptReleaseLock
         )
     }
+}
 
+impl CallKind {
     /// What the call takes, and how high it may be made.
     pub fn signature(self) -> Signature
         ensures { result ≡ calls.signature_of self }
     {
-        use CallLevel::{DispatchIf, OfInterrupt};
-        use Kind::{
-            Dpc, General, Interrupt, Made, Queue, Request, SpinLock, Target, Timer, WaitLock,
-            WorkItem,
+        use CallLevel::{AtMost, DispatchIf, OfInterrupt};
+        use Sort::{
+            Absent, AnyNumber, AnyObject, AnyRequest, AnyStatus, AnyValue, Class, ObjectOf, UpTo,
         };
-        use Sort::{AnyNumber, AnyObject, AnyRequest, AnyStatus, AnyValue, Class, ObjectOf, UpTo};
         match self {
-            Self::WdfObjectCreate => two(DISPATCH, Class(General), AnyObject),
-            Self::WdfSpinLockCreate => two(DISPATCH, Class(SpinLock), AnyObject),
-            Self::WdfWaitLockCreate => two(DISPATCH, Class(WaitLock), AnyObject),
-            Self::WdfRequestCreate => two(DISPATCH, Class(Made), AnyObject),
-            Self::WdfDpcCreate => one(DISPATCH, Class(Dpc)),
-            Self::WdfTimerCreate => one(DISPATCH, Class(Timer)),
-            Self::WdfWorkItemCreate => one(DISPATCH, Class(WorkItem)),
-            Self::WdfObjectDelete => one(DISPATCH, AnyObject),
-            Self::WdfObjectReference => one(DISPATCH, AnyObject).even_cleaned(),
-            Self::WdfObjectDereference => one(DISPATCH, AnyObject).even_cleaned(),
-            Self::GetContext => two(HIGHEST, AnyObject, UpTo(7)).even_cleaned(),
-            Self::SetContext => three(HIGHEST, AnyObject, UpTo(7), AnyValue).even_cleaned(),
-            Self::WdfSpinLockAcquire => one(DISPATCH, ObjectOf(SpinLock)),
-            Self::WdfSpinLockRelease => one(DISPATCH, ObjectOf(SpinLock)),
-            Self::WdfWaitLockAcquire => one(PASSIVE, ObjectOf(WaitLock)),
-            Self::WdfWaitLockRelease => one(DISPATCH, ObjectOf(WaitLock)),
-            Self::WdfInterruptAcquireLock => one(OfInterrupt, ObjectOf(Interrupt)),
-            Self::WdfInterruptReleaseLock => one(OfInterrupt, ObjectOf(Interrupt)),
-            Self::WdfRequestComplete => two(DISPATCH, ObjectOf(Request), AnyStatus),
-            Self::WdfRequestMarkCancelableEx => one(DISPATCH, ObjectOf(Request)),
-            Self::WdfRequestUnmarkCancelable => one(DISPATCH, ObjectOf(Request)).even_cleaned(),
-            Self::WdfRequestIsCanceled => one(DISPATCH, ObjectOf(Request)),
-            Self::WdfRequestRequeue => one(DISPATCH, ObjectOf(Request)),
-            Self::WdfRequestForwardToIoQueue => two(DISPATCH, ObjectOf(Request), ObjectOf(Queue)),
-            Self::WdfRequestStopAcknowledge => two(DISPATCH, ObjectOf(Request), AnyNumber),
-            Self::WdfRequestSend => three(DISPATCH, AnyRequest, ObjectOf(Target), UpTo(1)),
-            Self::WdfRequestCancelSentRequest => one(DISPATCH, AnyRequest),
-            Self::WdfIoQueueStart => one(DISPATCH, ObjectOf(Queue)),
-            Self::WdfIoQueueStop => one(DISPATCH, ObjectOf(Queue)),
-            Self::WdfIoQueueDrain => one(DISPATCH, ObjectOf(Queue)),
-            Self::WdfIoQueuePurge => one(DISPATCH, ObjectOf(Queue)),
-            Self::WdfIoQueueStopSynchronously => one(PASSIVE, ObjectOf(Queue)),
-            Self::WdfIoQueueDrainSynchronously => one(PASSIVE, ObjectOf(Queue)),
-            Self::WdfIoQueuePurgeSynchronously => one(PASSIVE, ObjectOf(Queue)),
-            Self::WdfIoQueueRetrieveNextRequest => one(DISPATCH, ObjectOf(Queue)),
-            Self::WdfIoQueueReadyNotify => two(DISPATCH, ObjectOf(Queue), AnyNumber),
-            Self::WdfInterruptQueueDpcForIsr => one(HIGHEST, ObjectOf(Interrupt)),
-            Self::WdfDpcEnqueue => one(HIGHEST, ObjectOf(Dpc)),
-            Self::WdfDpcCancel => two(DispatchIf(0), ObjectOf(Dpc), AnyNumber),
-            Self::WdfTimerStart => two(DISPATCH, ObjectOf(Timer), AnyNumber),
-            Self::WdfTimerStop => two(DispatchIf(0), ObjectOf(Timer), AnyNumber),
-            Self::WdfWorkItemEnqueue => one(DISPATCH, ObjectOf(WorkItem)),
-            Self::WdfWorkItemFlush => one(PASSIVE, ObjectOf(WorkItem)),
-            Self::WdfIoTargetStop => two(DispatchIf(2), ObjectOf(Target), UpTo(2)),
-            Self::WdfIoTargetStart => one(DISPATCH, ObjectOf(Target)),
+            CallKind::WdfObjectCreate => row(
+                AtMost(Irql(2)),
+                Class(Kind::General),
+                AnyObject,
+                Absent,
+                false,
+            ),
+            CallKind::WdfSpinLockCreate => row(
+                AtMost(Irql(2)),
+                Class(Kind::SpinLock),
+                AnyObject,
+                Absent,
+                false,
+            ),
+            CallKind::WdfWaitLockCreate => row(
+                AtMost(Irql(2)),
+                Class(Kind::WaitLock),
+                AnyObject,
+                Absent,
+                false,
+            ),
+            CallKind::WdfRequestCreate => row(
+                AtMost(Irql(2)),
+                Class(Kind::Made),
+                AnyObject,
+                Absent,
+                false,
+            ),
+            CallKind::WdfDpcCreate => row(AtMost(Irql(2)), Class(Kind::Dpc), Absent, Absent, false),
+            CallKind::WdfTimerCreate => row(
+                AtMost(Irql(2)),
+                Class(Kind::Timer),
+                Absent,
+                Absent,
+                false,
+            ),
+            CallKind::WdfWorkItemCreate => row(
+                AtMost(Irql(2)),
+                Class(Kind::WorkItem),
+                Absent,
+                Absent,
+                false,
+            ),
+            CallKind::WdfObjectDelete => row(AtMost(Irql(2)), AnyObject, Absent, Absent, false),
+            CallKind::WdfObjectReference => row(AtMost(Irql(2)), AnyObject, Absent, Absent, true),
+            CallKind::WdfObjectDereference => row(AtMost(Irql(2)), AnyObject, Absent, Absent, true),
+            CallKind::GetContext => row(AtMost(Irql(12)), AnyObject, UpTo(7), Absent, true),
+            CallKind::SetContext => row(AtMost(Irql(12)), AnyObject, UpTo(7), AnyValue, true),
+            CallKind::WdfSpinLockAcquire => row(
+                AtMost(Irql(2)),
+                ObjectOf(Kind::SpinLock),
+                Absent,
+                Absent,
+                false,
+            ),
+            CallKind::WdfSpinLockRelease => row(
+                AtMost(Irql(2)),
+                ObjectOf(Kind::SpinLock),
+                Absent,
+                Absent,
+                false,
+            ),
+            CallKind::WdfWaitLockAcquire => row(
+                AtMost(Irql(0)),
+                ObjectOf(Kind::WaitLock),
+                Absent,
+                Absent,
+                false,
+            ),
+            CallKind::WdfWaitLockRelease => row(
+                AtMost(Irql(2)),
+                ObjectOf(Kind::WaitLock),
+                Absent,
+                Absent,
+                false,
+            ),
+            CallKind::WdfInterruptAcquireLock => row(
+                OfInterrupt,
+                ObjectOf(Kind::Interrupt),
+                Absent,
+                Absent,
+                false,
+            ),
+            CallKind::WdfInterruptReleaseLock => row(
+                OfInterrupt,
+                ObjectOf(Kind::Interrupt),
+                Absent,
+                Absent,
+                false,
+            ),
+            CallKind::WdfRequestComplete => row(
+                AtMost(Irql(2)),
+                ObjectOf(Kind::Request),
+                AnyStatus,
+                Absent,
+                false,
+            ),
+            CallKind::WdfRequestMarkCancelableEx => row(
+                AtMost(Irql(2)),
+                ObjectOf(Kind::Request),
+                Absent,
+                Absent,
+                false,
+            ),
+            CallKind::WdfRequestUnmarkCancelable => row(
+                AtMost(Irql(2)),
+                ObjectOf(Kind::Request),
+                Absent,
+                Absent,
+                true,
+            ),
+            CallKind::WdfRequestIsCanceled => row(
+                AtMost(Irql(2)),
+                ObjectOf(Kind::Request),
+                Absent,
+                Absent,
+                false,
+            ),
+            CallKind::WdfRequestRequeue => row(
+                AtMost(Irql(2)),
+                ObjectOf(Kind::Request),
+                Absent,
+                Absent,
+                false,
+            ),
+            CallKind::WdfRequestForwardToIoQueue => row(
+                AtMost(Irql(2)),
+                ObjectOf(Kind::Request),
+                ObjectOf(Kind::Queue),
+                Absent,
+                false,
+            ),
+            CallKind::WdfRequestStopAcknowledge => row(
+                AtMost(Irql(2)),
+                ObjectOf(Kind::Request),
+                AnyNumber,
+                Absent,
+                false,
+            ),
+            CallKind::WdfRequestSend => row(
+                AtMost(Irql(2)),
+                AnyRequest,
+                ObjectOf(Kind::Target),
+                UpTo(1),
+                false,
+            ),
+            CallKind::WdfRequestCancelSentRequest => row(
+                AtMost(Irql(2)),
+                AnyRequest,
+                Absent,
+                Absent,
+                false,
+            ),
+            CallKind::WdfIoQueueStart => row(
+                AtMost(Irql(2)),
+                ObjectOf(Kind::Queue),
+                Absent,
+                Absent,
+                false,
+            ),
+            CallKind::WdfIoQueueStop => row(
+                AtMost(Irql(2)),
+                ObjectOf(Kind::Queue),
+                Absent,
+                Absent,
+                false,
+            ),
+            CallKind::WdfIoQueueDrain => row(
+                AtMost(Irql(2)),
+                ObjectOf(Kind::Queue),
+                Absent,
+                Absent,
+                false,
+            ),
+            CallKind::WdfIoQueuePurge => row(
+                AtMost(Irql(2)),
+                ObjectOf(Kind::Queue),
+                Absent,
+                Absent,
+                false,
+            ),
+            CallKind::WdfIoQueueStopSynchronously => row(
+                AtMost(Irql(0)),
+                ObjectOf(Kind::Queue),
+                Absent,
+                Absent,
+                false,
+            ),
+            CallKind::WdfIoQueueDrainSynchronously => row(
+                AtMost(Irql(0)),
+                ObjectOf(Kind::Queue),
+                Absent,
+                Absent,
+                false,
+            ),
+            CallKind::WdfIoQueuePurgeSynchronously => row(
+                AtMost(Irql(0)),
+                ObjectOf(Kind::Queue),
+                Absent,
+                Absent,
+                false,
+            ),
+            CallKind::WdfIoQueueRetrieveNextRequest => row(
+                AtMost(Irql(2)),
+                ObjectOf(Kind::Queue),
+                Absent,
+                Absent,
+                false,
+            ),
+            CallKind::WdfIoQueueReadyNotify => row(
+                AtMost(Irql(2)),
+                ObjectOf(Kind::Queue),
+                AnyNumber,
+                Absent,
+                false,
+            ),
+            CallKind::WdfInterruptQueueDpcForIsr => row(
+                AtMost(Irql(12)),
+                ObjectOf(Kind::Interrupt),
+                Absent,
+                Absent,
+                false,
+            ),
+            CallKind::WdfDpcEnqueue => row(
+                AtMost(Irql(12)),
+                ObjectOf(Kind::Dpc),
+                Absent,
+                Absent,
+                false,
+            ),
+            CallKind::WdfDpcCancel => row(
+                DispatchIf(0),
+                ObjectOf(Kind::Dpc),
+                AnyNumber,
+                Absent,
+                false,
+            ),
+            CallKind::WdfTimerStart => row(
+                AtMost(Irql(2)),
+                ObjectOf(Kind::Timer),
+                AnyNumber,
+                Absent,
+                false,
+            ),
+            CallKind::WdfTimerStop => row(
+                DispatchIf(0),
+                ObjectOf(Kind::Timer),
+                AnyNumber,
+                Absent,
+                false,
+            ),
+            CallKind::WdfWorkItemEnqueue => row(
+                AtMost(Irql(2)),
+                ObjectOf(Kind::WorkItem),
+                Absent,
+                Absent,
+                false,
+            ),
+            CallKind::WdfWorkItemFlush => row(
+                AtMost(Irql(0)),
+                ObjectOf(Kind::WorkItem),
+                Absent,
+                Absent,
+                false,
+            ),
+            CallKind::WdfIoTargetStop => row(
+                DispatchIf(2),
+                ObjectOf(Kind::Target),
+                UpTo(2),
+                Absent,
+                false,
+            ),
+            CallKind::WdfIoTargetStart => row(
+                AtMost(Irql(2)),
+                ObjectOf(Kind::Target),
+                Absent,
+                Absent,
+                false,
+            ),
         }
     }
 }
@@ -193,16 +402,6 @@ impl Sort {
 }
 
 impl Signature {
-    /// The same row for a call that may be made on a Cleaned object too.
-    fn even_cleaned(self) -> Signature
-        ensures { result ≡ record self { cleaned = true } }
-    {
-        Signature {
-            cleaned: true,
-            ..self
-        }
-    }
-
     /// How many arguments the call takes.
     pub fn count(&self) -> u8
         ensures { result ≡ calls.argument_count self.now }

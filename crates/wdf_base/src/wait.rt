@@ -31,7 +31,7 @@ pub enum OpenThing {
         request: Handle,
         queue: Handle,
     },
-    /// A request that returns from a queue: its EvtIoCanceledOnQueue is due.
+    /// A request whose EvtIoCanceledOnQueue is due.
     Returning {
         request: Handle,
         queue: Handle,

@@ -1,5 +1,5 @@
 //! The words by which texts and traces name enums: each table both ways.
-ghost use Rattle.std.specs.Prelude.{◌≡◌};
+ghost use Rattle.std.specs.Prelude.{◌≡◌, Some};
 ghost use Rattle.wdf_base.specs.Words as words;
 
 use crate::{Ask, CallKind, Callback, Fault, Stage, Status};
@@ -389,3 +389,41 @@ impl Ask {
         ASKS.iter().copied().find(|x| x.word().as_bytes() == word)
     }
 }
+
+// Laws of the tables: each word is read back, and nothing else is read so.
+
+/// The table of words of `Status`: `x` is read back from its word, and no other word gives it.
+pub fn status_words(x: Status, word: &[u8])
+    ensures back { words.status_of (words.status_word x) ≡ Some x }
+    ensures only { words.status_of word.now ≡ Some x → words.status_word x ≡ word.now }
+{}
+
+/// The table of words of `Callback`: `x` is read back from its word, and no other word gives it.
+pub fn callback_words(x: Callback, word: &[u8])
+    ensures back { words.callback_of (words.callback_word x) ≡ Some x }
+    ensures only { words.callback_of word.now ≡ Some x → words.callback_word x ≡ word.now }
+{}
+
+/// The table of words of `CallKind`: `x` is read back from its word, and no other word gives it.
+pub fn call_words(x: CallKind, word: &[u8])
+    ensures back { words.call_of (words.call_word x) ≡ Some x }
+    ensures only { words.call_of word.now ≡ Some x → words.call_word x ≡ word.now }
+{}
+
+/// The table of words of `Fault`: `x` is read back from its word, and no other word gives it.
+pub fn fault_words(x: Fault, word: &[u8])
+    ensures back { words.fault_of (words.fault_word x) ≡ Some x }
+    ensures only { words.fault_of word.now ≡ Some x → words.fault_word x ≡ word.now }
+{}
+
+/// The table of words of `Stage`: `x` is read back from its word, and no other word gives it.
+pub fn stage_words(x: Stage, word: &[u8])
+    ensures back { words.stage_of (words.stage_word x) ≡ Some x }
+    ensures only { words.stage_of word.now ≡ Some x → words.stage_word x ≡ word.now }
+{}
+
+/// The table of words of `Ask`: `x` is read back from its word, and no other word gives it.
+pub fn ask_words(x: Ask, word: &[u8])
+    ensures back { words.ask_of (words.ask_word x) ≡ Some x }
+    ensures only { words.ask_of word.now ≡ Some x → words.ask_word x ≡ word.now }
+{}

@@ -118,66 +118,68 @@ impl Thing {
             Thing::Device | Thing::Queue | Thing::Interrupt | Thing::Target
         )
     }
-}
 
-fn is_parent(thing: Thing) -> bool
-    ensures { result ≡ spec.is_parent thing }
-{
-    matches!(thing, Thing::Device | Thing::Queue)
-}
+    fn is_parent(self) -> bool
+        ensures { result ≡ spec.is_parent self }
+    {
+        matches!(self, Thing::Device | Thing::Queue)
+    }
 
-fn is_class_of(kind: Kind, thing: Thing) -> bool
-    ensures { result ≡ spec.is_class_of kind thing }
-{
-    match thing {
-        Thing::Class(own) => same_kind(own, kind),
-        _ => false,
+    fn is_class_of(self, kind: Kind) -> bool
+        ensures { result ≡ spec.is_class_of kind self }
+    {
+        match self {
+            Thing::Class(own) => same_kind(own, kind),
+            _ => false,
+        }
     }
 }
 
-/// Whether it is what a place in the text needs.
-pub fn suits(declaration: &Declaration, wanted: Wanted) -> bool
-    ensures { result ≡ spec.suits wanted declaration.now }
-{
-    match wanted {
-        Wanted::Anything => true,
-        Wanted::Device => matches!(declaration.thing, Thing::Device),
-        Wanted::Object => declaration.thing.is_object(),
-        Wanted::Parent => is_parent(declaration.thing),
-        Wanted::Register => matches!(declaration.thing, Thing::Register),
-        Wanted::RegisterOf(device) => {
-            matches!(declaration.thing, Thing::Register) && same_line(declaration.device, device)
+impl Declaration {
+    /// Whether it is what a place in the text needs.
+    pub fn suits(&self, wanted: Wanted) -> bool
+        ensures { result ≡ spec.suits wanted self.now }
+    {
+        match wanted {
+            Wanted::Anything => true,
+            Wanted::Device => matches!(self.thing, Thing::Device),
+            Wanted::Object => self.thing.is_object(),
+            Wanted::Parent => self.thing.is_parent(),
+            Wanted::Register => matches!(self.thing, Thing::Register),
+            Wanted::RegisterOf(device) => {
+                matches!(self.thing, Thing::Register) && same_line(self.device, device)
+            }
+            Wanted::InterruptOf(device) => {
+                matches!(self.thing, Thing::Interrupt) && same_line(self.device, device)
+            }
+            Wanted::ClassOf(kind) => self.thing.is_class_of(kind),
         }
-        Wanted::InterruptOf(device) => {
-            matches!(declaration.thing, Thing::Interrupt) && same_line(declaration.device, device)
-        }
-        Wanted::ClassOf(kind) => is_class_of(kind, declaration.thing),
     }
-}
 
-/// Three things that a place in the text can need it to be, some of them the same. An app is only what suits any need.
-pub fn uses(declaration: &Declaration) -> [Wanted; 3] {
-    let device = declaration.device;
-    match declaration.thing {
-        Thing::Device => [Wanted::Device, Wanted::Object, Wanted::Parent],
-        Thing::Queue => [Wanted::Object, Wanted::Parent, Wanted::Parent],
-        Thing::Interrupt => [
-            Wanted::Object,
-            Wanted::InterruptOf(device),
-            Wanted::InterruptOf(device),
-        ],
-        Thing::Target => [Wanted::Object, Wanted::Object, Wanted::Object],
-        Thing::Register => [
-            Wanted::Register,
-            Wanted::RegisterOf(device),
-            Wanted::RegisterOf(device),
-        ],
-        Thing::App => [Wanted::Anything, Wanted::Anything, Wanted::Anything],
-        Thing::Class(kind) => [
-            Wanted::ClassOf(kind),
-            Wanted::ClassOf(kind),
-            Wanted::ClassOf(kind),
-        ],
+    /// Three things that a place in the text can need it to be, some of them the same. An app is only what suits any need.
+    pub fn uses(&self) -> [Wanted; 3] {
+        let device = self.device;
+        match self.thing {
+            Thing::Device => [Wanted::Device, Wanted::Object, Wanted::Parent],
+            Thing::Queue => [Wanted::Object, Wanted::Parent, Wanted::Parent],
+            Thing::Interrupt => [
+                Wanted::Object,
+                Wanted::InterruptOf(device),
+                Wanted::InterruptOf(device),
+            ],
+            Thing::Target => [Wanted::Object, Wanted::Object, Wanted::Object],
+            Thing::Register => [
+                Wanted::Register,
+                Wanted::RegisterOf(device),
+                Wanted::RegisterOf(device),
+            ],
+            Thing::App => [Wanted::Anything, Wanted::Anything, Wanted::Anything],
+            Thing::Class(kind) => [
+                Wanted::ClassOf(kind),
+                Wanted::ClassOf(kind),
+                Wanted::ClassOf(kind),
+            ],
+        }
     }
 }
 

@@ -22,7 +22,7 @@ pub(crate) fn isr_dpc_outcome<A: Agent>(
     ensures answer { result.answer ≡ (calls.isr_dpc_outcome plan.now parts.now cpu.0 object.0).answer }
     ensures deeds { result.deeds ≡ (calls.isr_dpc_outcome plan.now parts.now cpu.0 object.0).deeds }
 {
-    if parts.interrupts().enabled(object)
+    if parts.interrupts().is_enabled(object)
         && plan.declares(Callback::EvtInterruptDpc, object)
         && !parts.dpcs().is_dpc_queued(object)
     {

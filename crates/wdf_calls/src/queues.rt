@@ -43,7 +43,7 @@ pub(crate) fn retrieve_outcome<A: Agent>(
     } else if !parts.queue_delivers(plan, queue) {
         refused(Status::WdfPaused)
     } else {
-        retrieve_front(plan, parts, queue, parts.queues().head(queue))
+        retrieve_front(plan, parts, queue, parts.queues().front(queue))
     }
 }
 

@@ -47,7 +47,7 @@ pub fn outcome<A: Agent>(
         CallKind::WdfObjectDereference => does(Deed::Unrefer { object }),
         CallKind::GetContext => {
             answer(
-                parts.tree().get(object, number_in(call.b)),
+                parts.tree().cell_of(object, number_in(call.b)),
                 Deeds::none(),
             )
         }

@@ -24,14 +24,14 @@ fn is_lock_free<A: Agent>(parts: &Parts<A>, o: ObjectId) -> bool
 fn nothing_held<A: Agent>(parts: &Parts<A>, q: ObjectId) -> bool
     ensures { result ≡ calls.nothing_held parts.now q.0 }
 {
-    parts.queues().held(q) == 0
+    parts.queues().held_count(q) == 0
 }
 
 /// Whether nothing returns from a queue.
 fn nothing_returns<A: Agent>(parts: &Parts<A>, q: ObjectId) -> bool
     ensures { result ≡ calls.nothing_returns parts.now q.0 }
 {
-    !parts.requests().returns_from(q)
+    !parts.requests().returns_to(q)
 }
 
 /// Whether the wait of a call is over; the calls that never wait are met at once. (KMDF)
@@ -52,7 +52,7 @@ pub fn is_met<A: Agent>(parts: &Parts<A>, call: &Call) -> bool
         }
         CallKind::WdfDpcCancel => call.b.is_number(0) || parts.cpus().nobody_on(o),
         CallKind::WdfTimerStop => call.b.is_number(0) || parts.cpus().nobody_on(o),
-        CallKind::WdfWorkItemFlush => !parts.work_items().queued(o)
+        CallKind::WdfWorkItemFlush => !parts.work_items().is_work_queued(o)
             && parts.cpus().nobody_on(o),
         CallKind::WdfIoTargetStop => call.b.is_number(2) || parts.nothing_at(o),
         _ => true,
@@ -63,7 +63,7 @@ pub fn is_met<A: Agent>(parts: &Parts<A>, call: &Call) -> bool
 fn some_received<A: Agent>(parts: &Parts<A>, q: ObjectId) -> bool
     ensures { result ≡ list_any (λ r. (info_of parts.now.requests r).received) (waiting_in parts.now.queues q.0) }
 {
-    let mut next = parts.queues().head(q);
+    let mut next = parts.queues().front(q);
     for _ in 0..parts.queues().len(q) {
         match next {
             Some(r) => {
@@ -78,11 +78,11 @@ fn some_received<A: Agent>(parts: &Parts<A>, q: ObjectId) -> bool
     false
 }
 
-/// Whether a purge of a queue makes some request return from it: a waiting one that the driver had before.
+/// Whether a purge of a queue makes some request return to it: a waiting one that the driver had before.
 fn purge_returns<A: Agent>(plan: &IndexedPlan, parts: &Parts<A>, q: ObjectId) -> bool
     ensures { result ≡ calls.purge_returns plan.now parts.now q.0 }
 {
-    parts.returns_from(plan, q) && some_received(parts, q)
+    parts.returns_to(plan, q) && some_received(parts, q)
 }
 
 /// Whether the wait of a call is over once its first part is done, asked of the state before it. Only a

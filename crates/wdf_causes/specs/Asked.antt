@@ -5,7 +5,7 @@ use Rattle.wdf_base.specs.declared.frame.Frame.{Frame}
 use Rattle.wdf_base.specs.declared.object.Place.{Place}
 use Rattle.wdf_base.specs.declared.object.Place.TheVariants as place
 use Rattle.wdf_base.specs.Same.{same_callback}
-use Rattle.wdf_base.specs.Places.{is_returning_from, is_sent_to}
+use Rattle.wdf_base.specs.Places.{is_returning_to, is_sent_to}
 use Rattle.wdf_model.specs.declared.entries.Request.{Request}
 use Rattle.wdf_model.specs.Plans.{is_target_of, target_of}
 use Rattle.wdf_model.specs.parts.Requests.{place_of, request_of}
@@ -36,6 +36,6 @@ is_left_at plan d r = is_unfinished_at d r || is_sent_from plan d r.place
 abbrev pub is_so_of_request : {A : Type 0} → Plan → State A → RequestTest → ℕ → Bool
 is_so_of_request plan S (request_test.HeldFrom q) r = is_held_from S q.0 r
 is_so_of_request plan S (request_test.ResumeDue q) r = is_held_from S q.0 r && resume_due S.power r
-is_so_of_request plan S (request_test.ReturningTo q) r = is_returning_from q.0 (place_of S.requests r)
+is_so_of_request plan S (request_test.ReturningTo q) r = is_returning_to q.0 (place_of S.requests r)
 is_so_of_request plan S (request_test.SentTo t) r = is_sent_to t.0 (place_of S.requests r)
 is_so_of_request plan S (request_test.LeftAt d) r = is_left_at plan d.0 (request_of S.requests r)

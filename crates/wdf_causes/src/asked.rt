@@ -27,7 +27,7 @@ pub(crate) enum RequestTest {
     HeldFrom(ObjectId),
     /// A resume is due for it, and the driver holds it from this queue.
     ResumeDue(ObjectId),
-    /// It returns from this queue.
+    /// It returns to this queue.
     ReturningTo(ObjectId),
     /// It is sent to this target.
     SentTo(ObjectId),
@@ -65,7 +65,7 @@ impl RequestTest {
         match self {
             RequestTest::HeldFrom(q) => parts.is_held_from(q, r),
             RequestTest::ResumeDue(q) => { parts.is_held_from(q, r) && parts.power().resume_due(r) }
-            RequestTest::ReturningTo(q) => parts.requests().place(r).is_returning_from(q),
+            RequestTest::ReturningTo(q) => parts.requests().place(r).is_returning_to(q),
             RequestTest::SentTo(t) => parts.requests().place(r).is_sent_to(t),
             RequestTest::LeftAt(d) => is_left_at(plan, d, parts.requests().request(r)),
         }

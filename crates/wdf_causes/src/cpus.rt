@@ -77,7 +77,7 @@ pub fn cpu_of_dpc<A: Agent>(plan: &IndexedPlan, parts: &Parts<A>, o: ObjectId) -
 pub fn head_lock<A: Agent>(plan: &IndexedPlan, parts: &Parts<A>, cpu: Cpu) -> Option<LockRef>
     ensures { result ≡ waits.head_lock plan.now parts.now cpu.0 }
 {
-    match parts.dpcs().head(cpu) {
+    match parts.dpcs().dpc_head(cpu) {
         Some(o) => scope_of(
             plan.plan(),
             parts.tree().kind(o).dpc_function(),

@@ -2,7 +2,7 @@
 ghost use Rattle.std.specs.Prelude.{◌≡◌, filter};
 ghost use Rattle.wdf_model.specs.Tables.{ids_of, least};
 ghost use Rattle.wdf_base.specs.declared.event.Stage.TheVariants as stage;
-ghost use Rattle.wdf_base.specs.Places.{is_returning_from, is_sent_to};
+ghost use Rattle.wdf_base.specs.Places.{is_returning_to, is_sent_to};
 ghost use Rattle.wdf_model.specs.State.{held_from, waits_for};
 ghost use Rattle.wdf_model.specs.parts.Cpus.{all_frames, frame_of, is_on};
 ghost use Rattle.wdf_model.specs.rules.Waits as waits;
@@ -76,13 +76,13 @@ pub fn least_held_from<A: Agent>(plan: &IndexedPlan, parts: &Parts<A>, q: Object
     least_request(plan, parts, RequestTest::HeldFrom(q))
 }
 
-/// The least request that returns from a queue.
-pub fn least_returning_from<A: Agent>(
+/// The least request that returns to a queue.
+pub fn least_returning_to<A: Agent>(
     plan: &IndexedPlan,
     parts: &Parts<A>,
     q: ObjectId,
 ) -> Option<u32>
-    ensures { result ≡ least (waits.requests_where parts.now (is_returning_from q.0)) }
+    ensures { result ≡ least (waits.requests_where parts.now (is_returning_to q.0)) }
 {
     least_request(plan, parts, RequestTest::ReturningTo(q))
 }

@@ -16,8 +16,7 @@ pub use causes::{
 pub use cpus::{DISPATCH_LEVEL, PASSIVE_LEVEL, cpu_of_dpc, head_lock, no_cpu};
 pub use keepers::{least_resume_holder, no_cpu_for_resume};
 pub use least::{
-    least_held_from, least_on, least_returning_from, least_running, least_sent_to,
-    least_waiting_for,
+    least_held_from, least_on, least_returning_to, least_running, least_sent_to, least_waiting_for,
 };
 pub use queues::{least_ahead, least_waiting};
 pub use stages::stage_cause;

@@ -17,10 +17,10 @@ fn least_waiting_in(queues: &Queues, q: ObjectId) -> Option<u32>
     ensures { result ≡ least (waiting_in queues.now q.0) }
 {
     if queues.is_rising(q) {
-        return Some(queues.head(q)?.0);
+        return Some(queues.front(q)?.0);
     }
     let mut least = None;
-    let mut next = queues.head(q);
+    let mut next = queues.front(q);
     for _ in 0..queues.len(q) {
         match next {
             Some(r) => {
@@ -39,7 +39,7 @@ fn front_ahead_in(queues: &Queues, q: ObjectId, r: ObjectId) -> Option<u32>
     requires { rises (λ x. x) 0 OBJECTS (waiting_in queues.now q.0) ≡ true }
     ensures { result ≡ least (take_while (λ x. not (x == r.0)) (waiting_in queues.now q.0)) }
 {
-    let front = queues.head(q)?;
+    let front = queues.front(q)?;
     if front.0 == r.0 {
         return None;
     }
@@ -55,7 +55,7 @@ fn least_ahead_in(queues: &Queues, q: ObjectId, r: ObjectId) -> Option<u32>
         return front_ahead_in(queues, q, r);
     }
     let mut least = None;
-    let mut next = queues.head(q);
+    let mut next = queues.front(q);
     for _ in 0..queues.len(q) {
         match next {
             Some(ahead) => {

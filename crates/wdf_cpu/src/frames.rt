@@ -33,7 +33,7 @@ impl Cpus {
     }
 
     /// How many frames are on an object, on a processor or parked.
-    pub fn on(&self, o: ObjectId) -> u32
+    pub fn frames_on(&self, o: ObjectId) -> u32
         ensures { result ≡ cpus.frames_on self.now o.0 }
     {
         if o.0 < OBJECTS {
@@ -47,7 +47,7 @@ impl Cpus {
     pub fn nobody_on(&self, o: ObjectId) -> bool
         ensures { result ≡ cpus.nobody_on self.now o.0 }
     {
-        self.on(o) == 0
+        self.frames_on(o) == 0
     }
 
     /// Whether a frame waits for an object: it is the first argument of the call that waits.

@@ -85,7 +85,7 @@ impl Dpcs {
     }
 
     /// The first DPC of a processor's list, `None` exactly where the list is empty.
-    pub fn head(&self, cpu: Cpu) -> Option<ObjectId>
+    pub fn dpc_head(&self, cpu: Cpu) -> Option<ObjectId>
         ensures { option_map (λ o. o.0) result ≡ dpcs.dpc_head self.now cpu.0 }
     {
         self.queued.front(u32::from(cpu.0)).map(ObjectId)

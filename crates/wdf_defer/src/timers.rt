@@ -119,14 +119,14 @@ impl Timers {
     }
 
     /// Whether the timer is queued and its due tick is reached.
-    pub fn due(&self, o: ObjectId, now: u64) -> bool
+    pub fn timer_due(&self, o: ObjectId, now: u64) -> bool
         ensures { result ≡ timers.timer_due self.now o.0 now }
     {
         self.timed_of(o).is_some_and(|timed| timed.tick <= now)
     }
 
     /// The least due tick, `None` exactly where no timer is queued. It goes over them.
-    pub fn next_time(&self) -> Option<u64>
+    pub fn next_timer(&self) -> Option<u64>
         ensures { result ≡ timers.next_timer self.now }
     {
         let mut least = None;
@@ -204,7 +204,7 @@ impl Timers {
     {
         let mut count = 0;
         for id in 0..o.0 {
-            if self.due(ObjectId(id), now) {
+            if self.timer_due(ObjectId(id), now) {
                 count += 1;
             }
         }
@@ -229,7 +229,7 @@ impl Timers {
     {
         let mut left = k;
         for id in 0..OBJECTS {
-            if self.due(ObjectId(id), now) {
+            if self.timer_due(ObjectId(id), now) {
                 if left == 0 {
                     return Some(ObjectId(id));
                 }
@@ -237,21 +237,6 @@ impl Timers {
             }
         }
         None
-    }
-
-    /// How many queued timers' ticks are reached. It goes over the ids where this tick wasn't told.
-    pub fn reached_len(&self, now: u64) -> u32
-        ensures { result ≡ length (due_ids self.now now) }
-    {
-        self.due_before(ObjectId(OBJECTS), now)
-    }
-
-    /// The k-th of them, by rising id from 0.
-    pub fn reached_at(&self, now: u64, k: u32) -> ObjectId
-        requires { k < length (due_ids self.now now) }
-        ensures { slice_get (due_ids self.now now) k ≡ Some result.0 }
-    {
-        self.nth_due(k, now).unwrap()
     }
 
     /// Whether a timer is due later than now. It goes over them where this tick wasn't told.

@@ -87,7 +87,7 @@ impl WorkItems {
     }
 
     /// Whether the work item is queued.
-    pub fn queued(&self, o: ObjectId) -> bool
+    pub fn is_work_queued(&self, o: ObjectId) -> bool
         ensures { result ≡ work_items.is_work_queued self.now o.0 }
     {
         self.queued.contains(o.0)
@@ -100,7 +100,7 @@ impl WorkItems {
         ensures answer { result ≡ not (work_items.is_work_queued self.old o.0) }
         ensures done { self.new ≡ work_items.enqueue self.old o.0 }
     {
-        if self.queued(o) {
+        if self.is_work_queued(o) {
             return false;
         }
         self.queued.put(o.0, true);
@@ -113,7 +113,7 @@ impl WorkItems {
         ensures answer { result ≡ work_items.is_work_queued self.old o.0 }
         ensures done { self.new ≡ work_items.cancel self.old o.0 }
     {
-        if !self.queued(o) {
+        if !self.is_work_queued(o) {
             return false;
         }
         self.queued.put(o.0, false);

@@ -4,7 +4,7 @@ use Rattle.std.proofs.lemmas.Bool.{le-ltb, lt-ltb}
 use Rattle.std.proofs.lemmas.Bool.Decides.{nat_tests}
 use Rattle.wdf_base.specs.declared.plan.Plan.{Plan}
 use Rattle.wdf_model.specs.Plans.{device_of_agent, devices_of, first_device_agent, target_of_agent, targets_of}
-use Rattle.wdf_model.specs.agents.AnyAgent.{agent_at, device_or_target}
+use Rattle.wdf_dev.specs.Agents.{agent_at, device_or_target}
 
 pub none_past : (xs : List ℕ) (k : ℕ) → slice_get xs k ≡ None → length xs ≤ k
 none_past [] k h = omega arith

@@ -23,11 +23,13 @@ mod any;
 mod app;
 mod device;
 mod device_lines;
+mod laws;
 mod lower_target;
 mod pnp_manager;
 
-pub use any::{AnyAgent, agent_of, agents, agents_before_devices};
+pub use any::{AnyAgent, agents};
 pub use app::App;
 pub use device::Device;
+pub use laws::agents_are_the_models;
 pub use lower_target::{LowerTarget, handle_in, names};
 pub use pnp_manager::PnpManager;

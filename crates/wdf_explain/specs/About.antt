@@ -19,7 +19,6 @@ use Rattle.wdf_base.specs.declared.event.Action.TheVariants as action
 use Rattle.wdf_base.specs.declared.event.Event.{Event}
 use Rattle.wdf_base.specs.declared.event.Event.TheVariants as event
 use Rattle.wdf_base.specs.Calls.{is_acquire}
-use Rattle.wdf_base.specs.Events.{event_cpu}
 use Rattle.wdf_lines.specs.Lines.{line_text}
 use Rattle.wdf_explain.specs.declared.asked.Asked.{Asked}
 use Rattle.wdf_explain.specs.declared.asked.Asked.TheVariants.{About, Moves, Takes, OnCpu}
@@ -124,7 +123,22 @@ takes o _ = false
 
 -- ---- where an event comes from
 
--- an event is on this processor
+-- the processor of an event, if it has one
+abbrev pub cpu_of : Event → Option Cpu
+cpu_of (event.Start cpu c object request) = Some cpu
+cpu_of (event.Local cpu line) = Some cpu
+cpu_of (event.Log cpu v) = Some cpu
+cpu_of (event.Spend cpu n) = Some cpu
+cpu_of (event.Register cpu a k v) = Some cpu
+cpu_of (event.Did cpu c answer) = Some cpu
+cpu_of (event.Waiting cpu c) = Some cpu
+cpu_of (event.Woke cpu c answer) = Some cpu
+cpu_of (event.Park cpu f) = Some cpu
+cpu_of (event.Unpark cpu f) = Some cpu
+cpu_of (event.End cpu c object v) = Some cpu
+cpu_of (event.Fault cpu x line) = Some cpu
+cpu_of _ = None
+
 abbrev pub is_cpu : ℕ → Option Cpu → Bool
 is_cpu cpu None = false
 is_cpu cpu (Some c) = c.0 == cpu
@@ -136,7 +150,7 @@ abbrev pub is_asked : Asked → Event → Bool
 is_asked (About o) e = is_about o.0 e
 is_asked (Moves r) e = moves r.0 e
 is_asked (Takes o) e = takes o.0 e
-is_asked (OnCpu cpu) e = is_cpu cpu.0 (event_cpu e)
+is_asked (OnCpu cpu) e = is_cpu cpu.0 (cpu_of e)
 
 abbrev pub number_if : Bool → ℕ → List ℕ
 number_if true n = n ∷ []
@@ -185,7 +199,7 @@ own_turn n _ = turn.Stays
 
 -- what it does to that of a processor
 abbrev pub turn_of : ℕ → ℕ → Event → Turn
-turn_of cpu n e = if is_cpu cpu (event_cpu e) then own_turn n e else turn.Stays
+turn_of cpu n e = if is_cpu cpu (cpu_of e) then own_turn n e else turn.Stays
 
 abbrev pub turn_if_any : ℕ → ℕ → Option Event → Turn
 turn_if_any cpu n None = turn.Stays
@@ -220,7 +234,7 @@ frame_on run n (Some cpu) = frame_under cpu.0 run n 0
 
 abbrev pub frame_if_any : List Event → ℕ → Option Event → Option ℕ
 frame_if_any run n None = None
-frame_if_any run n (Some e) = frame_on run n (event_cpu e)
+frame_if_any run n (Some e) = frame_on run n (cpu_of e)
 
 -- the frame in which the event with this number came
 abbrev pub frame_of : List Event → ℕ → Option ℕ

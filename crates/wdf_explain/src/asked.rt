@@ -1,6 +1,5 @@
 ghost use Rattle.std.specs.Prelude.{◌≡◌};
-ghost use Rattle.wdf_base.specs.Events.{event_cpu};
-ghost use Rattle.wdf_explain.specs.About.{is_asked, is_cpu};
+ghost use Rattle.wdf_explain.specs.About.{cpu_of, is_asked, is_cpu};
 
 use crate::about::{is_about, moves, takes};
 use wdf_base::{Cpu, Event, ObjectId};
@@ -18,11 +17,32 @@ pub enum Asked {
     OnCpu(Cpu),
 }
 
+/// The processor of an event, if it has one.
+pub(crate) fn cpu_of(event: &Event) -> Option<Cpu>
+    ensures { result ≡ cpu_of event.now }
+{
+    match event {
+        Event::Start { cpu, .. }
+        | Event::Local { cpu, .. }
+        | Event::Log { cpu, .. }
+        | Event::Spend { cpu, .. }
+        | Event::Register { cpu, .. }
+        | Event::Did { cpu, .. }
+        | Event::Waiting { cpu, .. }
+        | Event::Woke { cpu, .. }
+        | Event::Park { cpu, .. }
+        | Event::Unpark { cpu, .. }
+        | Event::End { cpu, .. }
+        | Event::Fault { cpu, .. } => Some(*cpu),
+        _ => None,
+    }
+}
+
 /// Whether an event is on a processor.
 fn is_on(cpu: Cpu, event: &Event) -> bool
-    ensures { result ≡ is_cpu cpu.0 (event_cpu event.now) }
+    ensures { result ≡ is_cpu cpu.0 (cpu_of event.now) }
 {
-    match event.cpu() {
+    match cpu_of(event) {
         Some(other) => other.0 == cpu.0,
         None => false,
     }

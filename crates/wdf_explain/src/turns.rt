@@ -2,6 +2,7 @@
 ghost use Rattle.std.specs.Prelude.{◌≡◌, ◌+◌, ◌<◌, ◌≤◌, ◌^◌, length};
 ghost use Rattle.wdf_explain.specs.About.{depth_before, found, frame_of, frame_under, own_turn, turn_of};
 
+use crate::asked::cpu_of;
 use wdf_base::{Cpu, Event};
 
 /// What an event does to the stack of a processor.
@@ -31,7 +32,7 @@ fn turn_on(number: usize, event: &Event) -> Turn
 fn turn_of(cpu: Cpu, number: usize, event: &Event) -> Turn
     ensures { result ≡ turn_of cpu.0 number event.now }
 {
-    match event.cpu() {
+    match cpu_of(event) {
         Some(other) => {
             if other.0 == cpu.0 {
                 turn_on(number, event)
@@ -90,6 +91,6 @@ pub(crate) fn frame_of(events: &[Event], number: usize) -> Option<usize>
     ensures { result ≡ frame_of events.now number }
 {
     let event = events.get(number.saturating_sub(1))?;
-    let cpu = event.cpu()?;
+    let cpu = cpu_of(event)?;
     top_after(cpu, events, number)
 }

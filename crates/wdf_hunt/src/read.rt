@@ -14,7 +14,7 @@ use wdf_expect::{ExpectError, expectations_of};
 use wdf_input::read_whole;
 use wdf_io::Source;
 use wdf_lines::{Message, one_number};
-use wdf_output::{Refusal, refusal_line};
+use wdf_output::Refusal;
 use wdf_parse::parse;
 use wdf_plan::resolve;
 use wdf_scene::Scene;
@@ -35,7 +35,7 @@ impl CaseRefusal {
         ensures { result ≡ case_refusal_line self }
     {
         match self {
-            CaseRefusal::Scenario { refusal } => refusal_line(refusal),
+            CaseRefusal::Scenario { refusal } => refusal.line(),
             CaseRefusal::Unread { line } => {
                 one_number(b"expect refused at line ", line, b": BadLine\n")
             }

@@ -4,9 +4,9 @@ use Rattle.std.specs.List.{range_with_len}
 use Rattle.std.proofs.lemmas.Bool.Decides.{nat_tests}
 use Rattle.wdf_base.specs.declared.plan.Plan.{Plan}
 use Rattle.wdf_model.specs.agents.IdlePolicy.{policy_at}
-use Rattle.wdf_model.specs.agents.AnyAgent.{agent_at}
-use Rattle.wdf_model.specs.agents.IdleAgent.{idle_agent_at}
-use Rattle.wdf_model.specs.agents.IdleAgent as agent
+use Rattle.wdf_dev.specs.Agents.{agent_at}
+use Rattle.wdf_idle.specs.Agents.{idle_agent_at}
+use Rattle.wdf_idle.specs.declared.idle_agent.IdleAgent.TheVariants as agent
 
 later : (a : ℕ) → 1 ≤ a → (a == 0) ≡ false
 later a h = grind (arith, nat_tests)

@@ -1,3 +1,3 @@
 pub mod Parts
 pub mod Ahead
-pub mod Roles
+pub mod Agents

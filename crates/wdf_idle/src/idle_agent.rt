@@ -1,68 +1,52 @@
 ghost use Rattle.std.specs.Prelude.{◌≡◌, ◌+◌, ◌∷◌, drop, length, map, IfOk};
 ghost use Rattle.std.specs.List.{range_with_len};
-ghost use Rattle.wdf_model.specs.agents.IdleAgent as agent;
-ghost use Rattle.wdf_model.specs.agents.IdleAgent.{idle_meaning};
+ghost use Rattle.wdf_idle.specs.Agents.{idle_meaning};
+ghost use Rattle.wdf_idle.specs.declared.idle_agent.IdleAgent.TheVariants as agent;
 
 use crate::idle_policy::IdlePolicy;
 use std::alloc::Global;
-use std::marker::Model;
 use wdf_base::{Agent, Event, Memory, Plan, Post};
 use wdf_dev::{AnyAgent, agents};
 
-/// What an agent of a run in which idle devices sleep is.
+/// An agent of a run in which idle devices sleep.
 #[derive(Drop)]
-enum IdleRole {
+pub enum IdleAgent {
     /// The idle policy, in the place of the Plug and Play manager.
     Policy(IdlePolicy),
     /// An app, a device or a target.
     Usual(AnyAgent),
 }
 
-/// An agent of a run in which idle devices sleep. To a clause it is that agent of the machine's definitions.
-#[derive(Drop)]
-pub struct IdleAgent {
-    role: IdleRole,
-}
-
-impl Model for IdleAgent {
-    ghost use Rattle.wdf_model.specs.agents.IdleAgent.{IdleAgent};
-    ghost use Rattle.wdf_idle.specs.Roles.{agent_of_role};
-
-    ghost Value = { IdleAgent };
-
-    ghost view = { λ a. agent_of_role a.role };
-}
-
 impl Agent for IdleAgent {
-    ghost use Rattle.wdf_model.specs.agents.IdleAgent.{idle_meaning};
+    ghost use Rattle.wdf_idle.specs.Agents.{idle_meaning};
 
     ghost meaning = { idle_meaning };
 
     fn feed(&mut self, event: &Event) {
-        match &mut self.role {
-            IdleRole::Policy(policy) => policy.feed(event),
-            IdleRole::Usual(agent) => agent.feed(event),
+        match self {
+            IdleAgent::Policy(policy) => policy.feed(event),
+            IdleAgent::Usual(agent) => agent.feed(event),
         }
     }
 
     fn due(&self) -> Option<Post> {
-        match &self.role {
-            IdleRole::Policy(policy) => policy.due(),
-            IdleRole::Usual(agent) => agent.due(),
+        match self {
+            IdleAgent::Policy(policy) => policy.due(),
+            IdleAgent::Usual(agent) => agent.due(),
         }
     }
 
     fn next_time(&self) -> Option<u64> {
-        match &self.role {
-            IdleRole::Policy(policy) => policy.next_time(),
-            IdleRole::Usual(agent) => agent.next_time(),
+        match self {
+            IdleAgent::Policy(policy) => policy.next_time(),
+            IdleAgent::Usual(agent) => agent.next_time(),
         }
     }
 
     fn value(&self, what: u32) -> u64 {
-        match &self.role {
-            IdleRole::Policy(_) => 0,
-            IdleRole::Usual(agent) => agent.value(what),
+        match self {
+            IdleAgent::Policy(_) => 0,
+            IdleAgent::Usual(agent) => agent.value(what),
         }
     }
 }
@@ -76,17 +60,13 @@ fn with_policy(
     ensures { IfOk result (λ all. all.items ≡ agent.Policy policy ∷ map agent.Usual (drop 1 agents.items)) }
 {
     let mut all = Vec::new(alloc);
-    all.push(IdleAgent {
-        role: IdleRole::Policy(policy),
-    })?;
+    all.push(IdleAgent::Policy(policy))?;
     let mut first = true;
     for agent in agents {
         if first {
             first = false;
         } else {
-            all.push(IdleAgent {
-                role: IdleRole::Usual(agent),
-            })?;
+            all.push(IdleAgent::Usual(agent))?;
         }
     }
     Ok(all)

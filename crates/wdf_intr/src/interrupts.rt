@@ -51,7 +51,7 @@ impl Interrupts {
     }
 
     /// Whether an interrupt is enabled.
-    pub fn enabled(&self, i: ObjectId) -> bool
+    pub fn is_enabled(&self, i: ObjectId) -> bool
         ensures value { result ≡ interrupts.is_enabled self.now i.0 }
         ensures there { IsTrue result → i.0 < OBJECTS }
     {
@@ -70,7 +70,7 @@ impl Interrupts {
     pub fn isr_due(&self, i: ObjectId, line: bool) -> bool
         ensures { result ≡ interrupts.isr_due self.now i.0 line }
     {
-        line && self.enabled(i)
+        line && self.is_enabled(i)
     }
 
     /// Writes whether an interrupt is enabled.

@@ -100,7 +100,6 @@ brought_to (post.Write device length) = Some device.id.0
 brought_to (post.Control device code length) = Some device.id.0
 brought_to _ = None
 
--- an id is there
 abbrev pub is_there : Option ℕ → Bool
 is_there None = false
 is_there (Some x) = true
@@ -120,7 +119,6 @@ abbrev pub cancelled_in : Post → Option Handle → Option ℕ
 cancelled_in (post.Cancel arrival) answer = id_in answer
 cancelled_in _ answer = None
 
--- the request whose cancel an event posts
 abbrev pub cancel_posted : Event → Option ℕ
 cancel_posted (event.Posted agent p answer) = cancelled_in p answer
 cancel_posted _ = None
@@ -131,7 +129,6 @@ completed (event.Did cpu c answer) = where_so (same_call_kind c.kind call.WdfReq
 completed (event.Complete request s) = Some request.id.0
 completed _ = None
 
--- the callback is a handler of a queue, which gets a request
 abbrev pub is_handler : Rank → Bool
 is_handler rank.Handler = true
 is_handler _ = false
@@ -203,7 +200,6 @@ is_undoing c answer = elim c.kind as (λ _. Bool) [
   | _ ↦ is_giving_up c answer
 ]
 
--- the request whose mark an event undoes: by a call of the driver, or by its completion
 abbrev pub mark_undone : Event → Option ℕ
 mark_undone (event.Did cpu c answer) = where_so (is_undoing c answer) (argument_object c.a)
 mark_undone (event.Complete request s) = Some request.id.0

@@ -19,7 +19,6 @@ abbrev pub is_told : ℕ → Option Told → Bool
 is_told o None = false
 is_told o (Some t) = t.object == o
 
--- an event says something of this object
 abbrev pub tells_of : Plan → ℕ → Event → Bool
 tells_of plan o e = is_told o (told plan e)
 
@@ -27,12 +26,10 @@ tells_of plan o e = is_told o (told plan e)
 abbrev pub first_told : Plan → List Event → ℕ → Option Told
 first_told plan all o = option_and_then (told plan) (find (tells_of plan o) all)
 
--- the parent that was said, 0 where nothing was
 abbrev pub told_parent : Option Told → ℕ
 told_parent None = 0
 told_parent (Some t) = t.parent
 
--- the parent of a declared object, else the one that was said
 abbrev pub parent_by : Option Declared → Option Told → ℕ
 parent_by (Some d) t = declared_parent d
 parent_by None t = told_parent t
@@ -51,12 +48,10 @@ cleaned_above plan all before (suc n) o =
 abbrev pub most_above : Plan → List Event → ℕ
 most_above plan all = length plan.declared + length all + 1
 
--- the class that was said
 abbrev pub told_class : Option Told → Option Declared
 told_class None = None
 told_class (Some t) = option_map declared.OfClass t.class
 
--- what is declared, else an object of the class that was said
 abbrev pub declared_by : Option Declared → Option Told → Option Declared
 declared_by (Some d) t = Some d
 declared_by None t = told_class t

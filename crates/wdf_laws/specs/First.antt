@@ -3,20 +3,20 @@ use Rattle.std.specs.Prelude.{if◌then◌else◌, ◌≡◌, ◌<◌, ℕ, ◌+
 use Rattle.wdf_base.specs.declared.plan.Plan.{Plan}
 use Rattle.wdf_base.specs.declared.event.Event.{Event}
 use Rattle.wdf_laws.specs.Frames.{Frames, frames_after}
-use Rattle.wdf_laws.specs.Laws.{completed_once, one_under_a_lock, quiet_after_cleanup, interrupts_while_enabled, works_with_power, acknowledged_before_power_loss, cancelled_once, presented_from_head, ended_once}
+use Rattle.wdf_laws.specs.Laws.{law_1, law_2, law_3, law_4, law_5, law_6, law_7, law_8, law_9}
 
 -- the least number of a law that an event breaks after those before it
 abbrev pub broken_by : Plan → List Event → List Event → Frames → Event → Option ℕ
 broken_by plan all before F e =
-    if completed_once before e then
-    (if one_under_a_lock plan all F e then
-    (if quiet_after_cleanup plan all before e then
-    (if interrupts_while_enabled plan before F e then
-    (if works_with_power plan before e then
-    (if acknowledged_before_power_loss plan before e then
-    (if cancelled_once before e then
-    (if presented_from_head before e then
-    (if ended_once plan all before e then None else Some 9)
+    if law_1 before e then
+    (if law_2 plan all F e then
+    (if law_3 plan all before e then
+    (if law_4 plan before F e then
+    (if law_5 plan before e then
+    (if law_6 plan before e then
+    (if law_7 before e then
+    (if law_8 before e then
+    (if law_9 plan all before e then None else Some 9)
     else Some 8)
     else Some 7)
     else Some 6)
@@ -26,7 +26,6 @@ broken_by plan all before F e =
     else Some 2)
     else Some 1
 
--- the same of event k of all, None where there is none
 abbrev pub broken_in : Plan → List Event → ℕ → Option Event → Option ℕ
 broken_in plan all k None = None
 broken_in plan all k (Some e) = broken_by plan all (take k all) (frames_after (take k all)) e

@@ -5,7 +5,6 @@ use Rattle.wdf_base.specs.declared.event.Event.TheVariants as event
 use Rattle.wdf_laws.specs.declared.sign.Stacked.{Stacked}
 use Rattle.wdf_laws.specs.declared.sign.Begun.{Begun}
 
--- what runs after some events: a fold of the starts, parks, unparks and ends among them
 pub record Frames : Type 0 where
   -- how many events there were
   pub number : ℕ
@@ -14,7 +13,6 @@ pub record Frames : Type 0 where
   -- the callbacks that have begun and not ended
   pub begun : List Begun
 
--- a frame is on the stack of this processor
 abbrev pub is_on : ℕ → Stacked → Bool
 is_on cpu s = s.cpu == cpu
 
@@ -31,11 +29,9 @@ without_at (Some k) stacks = remove stacks k
 abbrev pub without_top : ℕ → List Stacked → List Stacked
 without_top cpu stacks = without_at (position (is_on cpu) stacks) stacks
 
--- with a frame on top of the stack of a processor
 abbrev pub pushed : ℕ → ℕ → List Stacked → List Stacked
 pushed cpu frame stacks = insert stacks 0 (record { cpu = cpu; frame = frame })
 
--- a callback has another frame than this
 abbrev pub is_other : ℕ → Begun → Bool
 is_other frame b = not (b.frame == frame)
 
@@ -61,10 +57,8 @@ frames_step F (event.End cpu c object v) = record {
 }
 frames_step F _ = record { number = F.number + 1; stacks = F.stacks; begun = F.begun }
 
--- before the first event nothing runs
 abbrev pub no_frames : Frames
 no_frames = record { number = 0; stacks = []; begun = [] }
 
--- the frames after these events
 unfoldable pub frames_after : List Event → Frames
 frames_after events = fold frames_step no_frames events

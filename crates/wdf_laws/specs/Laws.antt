@@ -33,7 +33,6 @@ abbrev pub completes_once : List Event → Option ℕ → Bool
 completes_once before None = true
 completes_once before (Some r) = ever (sign.Arrival r) before && not (ever (sign.Completion r) before)
 
--- a request that arrived was completed; None asks nothing
 abbrev pub is_completed : List Event → Option ℕ → Bool
 is_completed before None = true
 is_completed before (Some r) = ever (sign.Completion r) before
@@ -47,19 +46,15 @@ abbrev pub ends_after_requests : List Event → Option ℕ → Bool
 ends_after_requests before None = true
 ends_after_requests before (Some d) = list_all (is_settled before d) before
 
--- KMDF: a request is completed once, after it arrived. KMDF: a device ends after each request that arrived for it was
--- completed.
-abbrev pub completed_once : List Event → Event → Bool
-completed_once before e = completes_once before (completed e) && ends_after_requests before (destroyed e)
+abbrev pub law_1 : List Event → Event → Bool
+law_1 before e = completes_once before (completed e) && ends_after_requests before (destroyed e)
 
 -- ---- 2: callbacks under one scope lock come one after the other
 
--- the lock that a callback needs is this one
 abbrev pub needs : LockRef → Option LockRef → Bool
 needs s None = false
 needs s (Some l) = same_lock l s
 
--- a callback that has begun holds this lock as its scope
 abbrev pub is_under : Plan → List Event → LockRef → Begun → Bool
 is_under plan all s b = needs s (scope_on plan all b.callback b.object)
 
@@ -68,17 +63,15 @@ abbrev pub is_free_scope : Plan → List Event → Frames → Option LockRef →
 is_free_scope plan all F None = true
 is_free_scope plan all F (Some s) = not (list_any (is_under plan all s) F.begun)
 
--- KMDF: under one scope lock no callback begins while another has begun and not ended.
-abbrev pub one_under_a_lock : Plan → List Event → Frames → Event → Bool
-one_under_a_lock plan all F (event.Start cpu c object request) = is_free_scope plan all F (scope_on plan all c object.id.0)
-one_under_a_lock plan all F _ = true
+abbrev pub law_2 : Plan → List Event → Frames → Event → Bool
+law_2 plan all F (event.Start cpu c object request) = is_free_scope plan all F (scope_on plan all c object.id.0)
+law_2 plan all F _ = true
 
 -- ---- 3: after the cleanup of an object, nothing begins on it or below it but its destroy callback
 
--- KMDF: after the cleanup of an object, nothing begins on it or below it but destroy callbacks.
-abbrev pub quiet_after_cleanup : Plan → List Event → List Event → Event → Bool
-quiet_after_cleanup plan all before (event.Start cpu c object request) = same_callback c callback.EvtDestroyCallback || not (cleaned_above plan all before (most_above plan all) object.id.0)
-quiet_after_cleanup plan all before _ = true
+abbrev pub law_3 : Plan → List Event → List Event → Event → Bool
+law_3 plan all before (event.Start cpu c object request) = same_callback c callback.EvtDestroyCallback || not (cleaned_above plan all before (most_above plan all) object.id.0)
+law_3 plan all before _ = true
 
 -- ---- 4: the callbacks of an interrupt
 
@@ -92,7 +85,6 @@ is_enabled_in_power plan before i d =
     stands (sign.Enabled i) (sign.ExitBegins d) before
     && (not (declares plan callback.EvtDeviceD0Entry d) || stood_at (sign.Enabled i) (sign.Entered d) (sign.NotEntered d) before)
 
--- a callback that has begun has this interrupt's lock
 abbrev pub is_with_interrupt : ℕ → Begun → Bool
 is_with_interrupt i b = takes_interrupt_lock b.callback && (b.object == i)
 
@@ -116,20 +108,16 @@ enable_row plan before _ d = true
 abbrev pub alone_row : Frames → Callback → ℕ → ℕ → ℕ → Bool
 alone_row F c level cpu i = not (takes_interrupt_lock c) || is_alone F level cpu i
 
--- the three rows for a callback of an interrupt; an object that is no interrupt is free of them
 abbrev pub interrupt_rows : Plan → List Event → Frames → Callback → ℕ → ℕ → Option InterruptInfo → Bool
 interrupt_rows plan before F c cpu i None = true
 interrupt_rows plan before F c cpu i (Some x) = enabled_row plan before c i x.device.0 && enable_row plan before c x.device.0 && alone_row F c x.level.0 cpu i
 
--- KMDF: EvtInterruptEnable begins only on an entered device, the other callbacks of an interrupt only after it was
--- enabled there. Those with the interrupt's lock come one after the other.
-abbrev pub interrupts_while_enabled : Plan → List Event → Frames → Event → Bool
-interrupts_while_enabled plan before F (event.Start cpu c object request) = interrupt_rows plan before F c cpu.0 object.id.0 (interrupt_of plan object.id.0)
-interrupts_while_enabled plan before F _ = true
+abbrev pub law_4 : Plan → List Event → Frames → Event → Bool
+law_4 plan before F (event.Start cpu c object request) = interrupt_rows plan before F c cpu.0 object.id.0 (interrupt_of plan object.id.0)
+law_4 plan before F _ = true
 
 -- ---- 5: a power-managed queue works only while its device has power
 
--- a device is Working at the opening
 abbrev pub works_at_opening : Option DeviceInfo → Bool
 works_at_opening None = false
 works_at_opening (Some d) = d.working
@@ -148,7 +136,6 @@ went_up plan before d =
     stands (sign.QueuesUp d) (sign.QueuesDown d) before && stands (sign.QueuesUp d) (sign.ExitBegins d) before
     && (not (declares plan callback.EvtDeviceD0Entry d) || stood_at (sign.QueuesUp d) (sign.Entered d) (sign.NotEntered d) before)
 
--- a queue needs no power, or its device has it: the queues went up and stay up, or are up from the opening on
 abbrev pub has_power : Plan → List Event → Option QueueInfo → Bool
 has_power plan before None = true
 has_power plan before (Some q) = not q.powered || went_up plan before q.device.0 || is_up_from_opening plan before q.device.0
@@ -160,24 +147,19 @@ is_power_rank rank.Resume = true
 is_power_rank rank.QueueState = true
 is_power_rank _ = false
 
--- a request is presented only from a queue that has its power
 abbrev pub presented_with_power : Plan → List Event → Option Taking → Bool
 presented_with_power plan before None = true
 presented_with_power plan before (Some t) = has_power plan before (queue_of plan t.queue)
 
--- EvtIoCanceledOnQueue, EvtIoResume and EvtIoQueueState begin only on a queue that has its power
 abbrev pub begun_with_power : Plan → List Event → Event → Bool
 begun_with_power plan before (event.Start cpu c object request) = not (is_power_rank (row_of c).rank) || has_power plan before (queue_of plan object.id.0)
 begun_with_power plan before _ = true
 
--- KMDF: a power-managed queue presents requests, and its EvtIoCanceledOnQueue, EvtIoResume and EvtIoQueueState begin,
--- only while its device has power.
-abbrev pub works_with_power : Plan → List Event → Event → Bool
-works_with_power plan before e = presented_with_power plan before (presented e) && begun_with_power plan before e
+abbrev pub law_5 : Plan → List Event → Event → Bool
+law_5 plan before e = presented_with_power plan before (presented e) && begun_with_power plan before e
 
 -- ---- 6: a device loses power only after each held request was acknowledged
 
--- the queue is a power-managed one of device d
 abbrev pub is_managed_of : ℕ → Option QueueInfo → Bool
 is_managed_of d None = false
 is_managed_of d (Some q) = q.powered && (q.device.0 == d)
@@ -189,30 +171,24 @@ is_acknowledged plan before d (Some t) =
     not (is_managed_of d (queue_of plan t.queue)) || not (stands (sign.TakingFrom t.request t.queue) (sign.GivingUp t.request) before)
     || followed (sign.QueuesDown d) (sign.Acknowledgement t.request) before
 
--- the same of the request that an event takes
 abbrev pub is_acknowledged_at : Plan → List Event → ℕ → Event → Bool
 is_acknowledged_at plan before d e = is_acknowledged plan before d (taken e)
 
--- each request that was taken from a power-managed queue of the device is given up or acknowledged
 abbrev pub all_acknowledged : Plan → List Event → Option ℕ → Bool
 all_acknowledged plan before None = true
 all_acknowledged plan before (Some d) = list_all (is_acknowledged_at plan before d) before
 
--- KMDF: a device is settled, and its EvtDeviceD0Exit begins, only after each request that is held from a power-managed
--- queue of it was acknowledged.
-abbrev pub acknowledged_before_power_loss : Plan → List Event → Event → Bool
-acknowledged_before_power_loss plan before e = all_acknowledged plan before (passed stage.Settled e) && all_acknowledged plan before (begun_on callback.EvtDeviceD0Exit e)
+abbrev pub law_6 : Plan → List Event → Event → Bool
+law_6 plan before e = all_acknowledged plan before (passed stage.Settled e) && all_acknowledged plan before (begun_on callback.EvtDeviceD0Exit e)
 
 -- ---- 7: a cancel callback comes once, for a request that is marked and whose cancel was posted
 
--- the cancel of the request was posted, its mark stands, and its callback never began
 abbrev pub is_cancel_due : List Event → Option ℕ → Bool
 is_cancel_due before None = true
 is_cancel_due before (Some r) = ever (sign.CancelPosted r) before && stands (sign.Marked r) (sign.MarkUndone r) before && not (ever (sign.CancelBegins r) before)
 
--- KMDF: EvtRequestCancel begins once for a request, which is marked then, and whose cancel was posted.
-abbrev pub cancelled_once : List Event → Event → Bool
-cancelled_once before e = is_cancel_due before (begun_for callback.EvtRequestCancel e)
+abbrev pub law_7 : List Event → Event → Bool
+law_7 before e = is_cancel_due before (begun_for callback.EvtRequestCancel e)
 
 -- ---- 8: a queue presents from its head
 
@@ -241,7 +217,6 @@ abbrev pub presented_in : Option Event → Option Taking
 presented_in None = None
 presented_in (Some e) = presented e
 
--- the same by its number
 abbrev pub presented_at : List Event → ℕ → Option Taking
 presented_at before k = presented_in (slice_get before k)
 
@@ -250,15 +225,12 @@ abbrev pub all_in_turn : List Event → Taking → ℕ → Bool
 all_in_turn before later zero = true
 all_in_turn before later (suc k) = all_in_turn before later k && is_in_turn (take k before) (drop k before) later (presented_at before k)
 
--- each earlier presentation from the same queue was in its turn
 abbrev pub is_presented_in_turn : List Event → Option Taking → Bool
 is_presented_in_turn before None = true
 is_presented_in_turn before (Some t) = all_in_turn before t (length before)
 
--- KMDF: a queue presents from its head. A request enters at the tail, but one that the driver requeues or gives back at a
--- stop enters at the head.
-abbrev pub presented_from_head : List Event → Event → Bool
-presented_from_head before e = is_presented_in_turn before (presented e)
+abbrev pub law_8 : List Event → Event → Bool
+law_8 before e = is_presented_in_turn before (presented e)
 
 -- ---- 9: an object ends once, after its cleanup, its children and its references
 
@@ -266,12 +238,10 @@ presented_from_head before e = is_presented_in_turn before (presented e)
 abbrev pub is_ended_child : Plan → List Event → List Event → ℕ → ℕ → Bool
 is_ended_child plan all before o c = not (parent_of plan all c == o) || ever (sign.Destroyed c) before
 
--- the same of the object of which an event says something
 abbrev pub is_ended_told : Plan → List Event → List Event → ℕ → Option Told → Bool
 is_ended_told plan all before o None = true
 is_ended_told plan all before o (Some t) = is_ended_child plan all before o t.object
 
--- the same of an event
 abbrev pub is_ended_at : Plan → List Event → List Event → ℕ → Event → Bool
 is_ended_at plan all before o e = is_ended_told plan all before o (told plan e)
 
@@ -280,8 +250,6 @@ abbrev pub declared_ended : Plan → List Event → List Event → ℕ → ℕ �
 declared_ended plan all before o zero = true
 declared_ended plan all before o (suc n) = declared_ended plan all before o n && is_ended_child plan all before o (n + 1)
 
--- The object had its cleanup and no end before. Each of its children has its end, those of the plan and those that any
--- event of the list tells of. As many references to it were given back as taken.
 abbrev pub ends_well : Plan → List Event → List Event → Option ℕ → Bool
 ends_well plan all before None = true
 ends_well plan all before (Some o) =
@@ -289,6 +257,5 @@ ends_well plan all before (Some o) =
     && (declared_ended plan all before o (length plan.declared) && list_all (is_ended_at plan all before o) all)
     && (times (sign.Dereferenced o) before == times (sign.Referenced o) before)
 
--- KMDF: an object ends once, after its cleanup, after its children, and when no reference to it is held.
-abbrev pub ended_once : Plan → List Event → List Event → Event → Bool
-ended_once plan all before e = ends_well plan all before (destroyed e)
+abbrev pub law_9 : Plan → List Event → List Event → Event → Bool
+law_9 plan all before e = ends_well plan all before (destroyed e)

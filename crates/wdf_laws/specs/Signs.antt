@@ -29,7 +29,6 @@ shows_of_object (sign.Referenced o) e = is_id o (called call.WdfObjectReference 
 shows_of_object (sign.Dereferenced o) e = is_id o (called call.WdfObjectDereference e)
 shows_of_object _ e = false
 
--- an event shows a sign: the signs of requests here, the others above
 abbrev pub shows : Sign → Event → Bool
 shows (sign.Arrival r) e = is_id r (arrived e)
 shows (sign.Completion r) e = is_id r (completed e)

@@ -5,23 +5,22 @@ use Rattle.wdf_laws.specs.declared.sign.Sign.{Sign}
 use Rattle.wdf_laws.specs.declared.sign.Moment.{Moment}
 use Rattle.wdf_laws.specs.Signs.{shows}
 
--- one event more: it has the sign, or one came before
+-- an event with the sign came
 abbrev pub came_step : Sign → Bool → Event → Bool
 came_step p came e = came || shows p e
 
--- an event with the sign came
 unfoldable pub ever : Sign → List Event → Bool
 ever p events = fold (came_step p) false events
 
 -- how many events with the sign came
+
 unfoldable pub times : Sign → List Event → ℕ
 times p events = count_by (shows p) events
 
--- one event more: it has the first sign, or that stands and the event hasn't the second
+-- an event with the first sign came, and none with the second came after the last of them
 abbrev pub stands_step : Sign → Sign → Bool → Event → Bool
 stands_step p q stands e = shows p e || (stands && not (shows q e))
 
--- an event with the first sign came, and none with the second came after the last of them
 unfoldable pub stands : Sign → Sign → List Event → Bool
 stands p q events = fold (stands_step p q) false events
 
@@ -29,8 +28,6 @@ stands p q events = fold (stands_step p q) false events
 abbrev pub followed : Sign → Sign → List Event → Bool
 followed p q events = ever p events && not (stands p q events)
 
--- one event more: whether the second sign stands without the third, and whether it stood so at the last event with the
--- first
 abbrev pub moment_step : Sign → Sign → Sign → Moment → Event → Moment
 moment_step p a b m e = record { current = stands_step a b m.current e; at = if shows p e then m.current else m.at }
 

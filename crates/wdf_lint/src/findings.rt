@@ -1,7 +1,6 @@
 //! Findings, and the list of them that `lint` answers.
-ghost use Rattle.std.specs.Prelude.{◌≡◌, ◌<◌, ◌==◌, length, map, option_map, Some, slice_get};
+ghost use Rattle.std.specs.Prelude.{◌≡◌, ◌<◌, ◌==◌, length, option_map, Some, slice_get};
 ghost use Rattle.wdf_lint.specs.Findings as spec;
-ghost use Rattle.wdf_lint.specs.Found.{finding_of};
 
 use crate::lines::Lines;
 use std::marker::Model;
@@ -35,6 +34,16 @@ impl Model for FindingList {
 }
 
 impl FindingList {
+    ghost use Rattle.std.specs.Prelude.{map};
+    ghost use Rattle.wdf_lint.specs.Found.{finding_of};
+
+    /// The list of these.
+    pub fn new(found: Vec<Found>) -> FindingList
+        ensures { result ≡ map finding_of found.items }
+    {
+        FindingList { found }
+    }
+
     /// How many findings there are.
     pub fn len(&self) -> usize
         ensures { result ≡ length self.now }
@@ -72,13 +81,6 @@ impl FindingList {
     {
         self.found[k].path.as_slice()
     }
-}
-
-/// The list of these.
-pub fn list_of(found: Vec<Found>) -> FindingList
-    ensures { result ≡ map finding_of found.items }
-{
-    FindingList { found }
 }
 
 /// The number of a fault in the table of faults, from 1.

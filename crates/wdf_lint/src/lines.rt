@@ -20,34 +20,34 @@ impl Model for Lines {
 }
 
 impl Lines {
+    /// No line.
+    pub fn new(alloc: Global) -> Lines
+        ensures { result ≡ [] }
+    {
+        Lines {
+            lines: Vec::new(alloc),
+        }
+    }
+
+    /// Adds a line at the end.
+    pub fn push(&mut self, line: u32) -> Result<(), Memory>
+        ensures { OnOk result (self.new ≡ self.old ++ line ∷ []) }
+    {
+        self.lines.push(line)?;
+        Ok(())
+    }
+
+    /// Turns the order round.
+    pub fn reverse(&mut self)
+        ensures { self.new ≡ reverse self.old }
+    {
+        self.lines.reverse();
+    }
+
     /// The lines.
     pub fn as_slice(&self) -> &[u32]
         ensures { result.now ≡ self.now }
     {
         self.lines.as_slice()
     }
-}
-
-/// No line.
-pub fn no_lines(alloc: Global) -> Lines
-    ensures { result ≡ [] }
-{
-    Lines {
-        lines: Vec::new(alloc),
-    }
-}
-
-/// Adds a line at the end.
-pub fn add_line(lines: &mut Lines, line: u32) -> Result<(), Memory>
-    ensures { OnOk result (lines.new ≡ lines.old ++ line ∷ []) }
-{
-    lines.lines.push(line)?;
-    Ok(())
-}
-
-/// Turns the order round.
-pub fn turn_round(lines: &mut Lines)
-    ensures { lines.new ≡ reverse lines.old }
-{
-    lines.lines.reverse();
 }

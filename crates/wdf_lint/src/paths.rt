@@ -2,7 +2,7 @@
 ghost use Rattle.std.specs.Prelude.{◌≡◌, ◌<◌, ◌++◌, ◌∷◌, [], length, IfOk, OnOk, Some, slice_get};
 ghost use Rattle.wdf_lint.specs.Paths.{longer, paths_of};
 
-use crate::lines::{Lines, add_line, no_lines, turn_round};
+use crate::lines::Lines;
 use std::alloc::Global;
 use std::marker::Model;
 use wdf_base::Memory;
@@ -65,14 +65,14 @@ impl Paths {
         requires { n < length self.now }
         ensures { IfOk result (λ p. slice_get self.now n ≡ Some p) }
     {
-        let mut lines = no_lines(alloc);
+        let mut lines = Lines::new(alloc);
         let mut at = n;
         while at > 0 {
-            add_line(&mut lines, self.ends[at].line)?;
+            lines.push(self.ends[at].line)?;
             at = self.ends[at].before;
         }
-        add_line(&mut lines, self.ends[0].line)?;
-        turn_round(&mut lines);
+        lines.push(self.ends[0].line)?;
+        lines.reverse();
         Ok(lines)
     }
 }

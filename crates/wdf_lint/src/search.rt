@@ -9,7 +9,7 @@ ghost use Rattle.wdf_lint.specs.Searches.{IsSearch, IsSearchedOrBig, added, adde
 ghost use Rattle.wdf_lint.specs.contracts.state.AbstractPartialEq.TheImpl as derived;
 
 use crate::paths::Paths;
-use crate::state::{Abstract, copy_state};
+use crate::state::Abstract;
 use crate::steps::add_steps;
 use crate::walked::{Walked, line_at, start};
 use indexmap::IndexSet;
@@ -137,7 +137,7 @@ impl Search {
         let mut last = None;
         for a in states {
             let line = line_at(plan, w, a);
-            last = self.add(path, last, line, copy_state(alloc, a)?)?;
+            last = self.add(path, last, line, a.copy(alloc)?)?;
         }
         Ok(())
     }

@@ -4,7 +4,7 @@ ghost use Rattle.std.specs.Cmp.Lexicographic.{pointwise, nat_list_eq_equiv};
 ghost use Rattle.std.specs.Cmp.Rules.{hashing};
 ghost use Rattle.std.specs.Hash as fed;
 ghost use Rattle.std.proofs.Common.{rules};
-ghost use Rattle.std.specs.Prelude.{◌≡◌, [], IfOk, filter, nat_lt, not};
+ghost use Rattle.std.specs.Prelude.{◌≡◌, filter, nat_lt, not};
 ghost use Rattle.wdf_model.specs.Tables.{without};
 ghost use Rattle.wdf_lint.specs.Steps.{joined};
 
@@ -74,8 +74,26 @@ impl Model for Ids {
 }
 
 impl Ids {
-    ghost use Rattle.std.specs.Prelude.{◌≡◌, ◌==◌, length};
+    ghost use Rattle.std.specs.Prelude.{◌≡◌, ◌==◌, [], length, IfOk};
     ghost use Rattle.wdf_model.specs.Tables.{contains};
+
+    /// No id.
+    pub fn new(alloc: Global) -> Ids
+        ensures { result ≡ [] }
+    {
+        Ids {
+            ids: Vec::new(alloc),
+        }
+    }
+
+    /// The same ids once more.
+    pub fn copy(&self, alloc: Global) -> Result<Ids, Memory>
+        ensures { IfOk result (λ s. s ≡ self.now) }
+    {
+        let mut ids = Vec::new(alloc);
+        ids.extend_from_slice(self.ids.as_slice())?;
+        Ok(Ids { ids })
+    }
 
     /// Whether there is none.
     pub fn is_empty(&self) -> bool
@@ -90,49 +108,31 @@ impl Ids {
     {
         self.ids.iter().any(|other| *other == id)
     }
-}
 
-/// No id.
-pub fn no_ids(alloc: Global) -> Ids
-    ensures { result ≡ [] }
-{
-    Ids {
-        ids: Vec::new(alloc),
+    /// The ids with one more.
+    pub fn with(&self, alloc: Global, id: u32) -> Result<Ids, Memory>
+        ensures { IfOk result (λ s. s ≡ joined id self.now) }
+    {
+        let mut ids = Vec::new(alloc);
+        ids.extend_from_slice(self.ids.as_slice())?;
+        drop_after(&mut ids, id);
+        ids.push(id)?;
+        let mut later = Vec::new(alloc);
+        later.extend_from_slice(self.ids.as_slice())?;
+        keep_after(&mut later, id);
+        ids.extend_from_slice(later.as_slice())?;
+        Ok(Ids { ids })
     }
-}
 
-/// The same ids once more.
-pub fn copy_ids(alloc: Global, from: &Ids) -> Result<Ids, Memory>
-    ensures { IfOk result (λ s. s ≡ from.now) }
-{
-    let mut ids = Vec::new(alloc);
-    ids.extend_from_slice(from.ids.as_slice())?;
-    Ok(Ids { ids })
-}
-
-/// The ids with one more.
-pub fn with_id(alloc: Global, from: &Ids, id: u32) -> Result<Ids, Memory>
-    ensures { IfOk result (λ s. s ≡ joined id from.now) }
-{
-    let mut ids = Vec::new(alloc);
-    ids.extend_from_slice(from.ids.as_slice())?;
-    drop_after(&mut ids, id);
-    ids.push(id)?;
-    let mut later = Vec::new(alloc);
-    later.extend_from_slice(from.ids.as_slice())?;
-    keep_after(&mut later, id);
-    ids.extend_from_slice(later.as_slice())?;
-    Ok(Ids { ids })
-}
-
-/// The ids without one.
-pub fn without_id(alloc: Global, from: &Ids, id: u32) -> Result<Ids, Memory>
-    ensures { IfOk result (λ s. s ≡ without id from.now) }
-{
-    let mut ids = Vec::new(alloc);
-    ids.extend_from_slice(from.ids.as_slice())?;
-    drop_id(&mut ids, id);
-    Ok(Ids { ids })
+    /// The ids without one.
+    pub fn without(&self, alloc: Global, id: u32) -> Result<Ids, Memory>
+        ensures { IfOk result (λ s. s ≡ without id self.now) }
+    {
+        let mut ids = Vec::new(alloc);
+        ids.extend_from_slice(self.ids.as_slice())?;
+        drop_id(&mut ids, id);
+        Ok(Ids { ids })
+    }
 }
 
 impl PartialEq for Ids {
@@ -170,16 +170,20 @@ pub struct Abstract {
     pub interrupts: Ids,
 }
 
-/// The same state once more.
-pub fn copy_state(alloc: Global, a: &Abstract) -> Result<Abstract, Memory>
-    ensures { IfOk result (λ s. s ≡ a.now) }
-{
-    Ok(Abstract {
-        at: a.at,
-        variables: a.variables,
-        hold: a.hold,
-        acknowledged: a.acknowledged,
-        lock: a.lock,
-        interrupts: copy_ids(alloc, &a.interrupts)?,
-    })
+impl Abstract {
+    ghost use Rattle.std.specs.Prelude.{◌≡◌, IfOk};
+
+    /// The same state once more.
+    pub fn copy(&self, alloc: Global) -> Result<Abstract, Memory>
+        ensures { IfOk result (λ a. a ≡ self.now) }
+    {
+        Ok(Abstract {
+            at: self.at,
+            variables: self.variables,
+            hold: self.hold,
+            acknowledged: self.acknowledged,
+            lock: self.lock,
+            interrupts: self.interrupts.copy(alloc)?,
+        })
+    }
 }

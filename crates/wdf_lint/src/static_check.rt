@@ -8,8 +8,8 @@ ghost use Rattle.wdf_lint.specs.Searches.{IsSearched, table_of};
 ghost use Rattle.wdf_lint.specs.Walked.{IsOf};
 ghost use Rattle.wdf_lint.specs.declared.findings.Found.{Found};
 
-use crate::findings::{FindingList, Found, list_of, rule_number};
-use crate::lines::no_lines;
+use crate::findings::{FindingList, Found, rule_number};
+use crate::lines::Lines;
 use crate::rules::rule_at;
 use crate::search::{Search, explore};
 use crate::steps::statement_of;
@@ -71,7 +71,7 @@ fn too_big(alloc: Global, plan: &Plan, script: u32) -> Result<Vec<Found>, Memory
         rule: 0,
         script,
         at: 0,
-        path: no_lines(alloc),
+        path: Lines::new(alloc),
     })?;
     Ok(found)
 }
@@ -110,6 +110,6 @@ pub fn lint(alloc: Global, plan: &Plan) -> Result<LintAnswer, Memory>
         return Ok(LintAnswer::Clean);
     }
     found.sort_by_key(|f| (f.line, f.rule, f.script, f.at))?;
-    let list = list_of(found);
+    let list = FindingList::new(found);
     Ok(LintAnswer::Findings(list))
 }

@@ -7,7 +7,7 @@ ghost use Rattle.std.specs.Prelude.{◌<◌, length};
 
 use crate::atoms::{decided, known_of, node_of, variable_in};
 use crate::rules::{interrupt_in, rule_of_call};
-use crate::state::{Abstract, HeldLock, Hold, Known, copy_state, with_id, without_id};
+use crate::state::{Abstract, HeldLock, Hold, Known};
 use crate::walked::Walked;
 use std::alloc::Global;
 use wdf_base::{Act, CallKind, ExprNode, Fault, Memory, Plan, Statement, Status, VARIABLES};
@@ -58,7 +58,7 @@ fn answer(a: Abstract, into: Option<u8>, known: Known) -> Abstract
 fn add_at(after: &mut Vec<Abstract>, alloc: Global, a: &Abstract, at: u32) -> Result<(), Memory>
     ensures { OnOk result (after.new.items ≡ after.old.items ++ abstract_.go a.now at ∷ []) }
 {
-    let b = go(copy_state(alloc, a)?, at);
+    let b = go(a.copy(alloc)?, at);
     after.push(b)?;
     Ok(())
 }
@@ -88,7 +88,7 @@ fn add_assigned(
 ) -> Result<(), Memory>
     ensures { OnOk result (after.new.items ≡ after.old.items ++ abstract_.go (abstract_.assign a.now variable known) next ∷ []) }
 {
-    let b = go(assign(copy_state(alloc, a)?, variable, known), next);
+    let b = go(assign(a.copy(alloc)?, variable, known), next);
     after.push(b)?;
     Ok(())
 }
@@ -136,7 +136,7 @@ fn add_way(
 ) -> Result<(), Memory>
     ensures { OnOk result (after.new.items ≡ after.old.items ++ spec.by_way a.now to.next to.into (spec.way hold known) ∷ []) }
 {
-    let b = by_way(copy_state(alloc, a)?, to, hold, known);
+    let b = by_way(a.copy(alloc)?, to, hold, known);
     after.push(b)?;
     Ok(())
 }
@@ -220,7 +220,7 @@ fn acquired_at(alloc: Global, a: Abstract, interrupt: Option<u32>) -> Result<Abs
     match interrupt {
         None => Ok(a),
         Some(i) => {
-            let interrupts = with_id(alloc, &a.interrupts, i)?;
+            let interrupts = a.interrupts.with(alloc, i)?;
             Ok(Abstract { interrupts, ..a })
         }
     }
@@ -232,7 +232,7 @@ fn released_at(alloc: Global, a: Abstract, interrupt: Option<u32>) -> Result<Abs
     match interrupt {
         None => Ok(a),
         Some(i) => {
-            let interrupts = without_id(alloc, &a.interrupts, i)?;
+            let interrupts = a.interrupts.without(alloc, i)?;
             Ok(Abstract { interrupts, ..a })
         }
     }
@@ -285,12 +285,12 @@ fn add_after_call(
 {
     match rule {
         Some(_) => {
-            let b = go(answer(copy_state(alloc, a)?, to.into, Known::Unknown), to.next);
+            let b = go(answer(a.copy(alloc)?, to.into, Known::Unknown), to.next);
             after.push(b)?;
             Ok(())
         }
         None => {
-            let b = called(alloc, plan, w, copy_state(alloc, a)?, kind, x)?;
+            let b = called(alloc, plan, w, a.copy(alloc)?, kind, x)?;
             add_ways(after, alloc, &b, to, kind, a.hold)
         }
     }

@@ -7,7 +7,7 @@ ghost use Rattle.wdf_lint.specs.Abstracts as abstract_;
 ghost use Rattle.wdf_lint.specs.Walks as walks;
 ghost use Rattle.wdf_lint.specs.Walked.{IsOf};
 
-use crate::state::{Abstract, HeldLock, Hold, Known, no_ids};
+use crate::state::{Abstract, HeldLock, Hold, Ids, Known};
 use crate::steps::statement_of;
 use std::alloc::Global;
 use wdf_base::{Act, CallKind, Callback, Declared, Plan, Script, VARIABLES, same_declared};
@@ -116,7 +116,7 @@ pub fn start(alloc: Global, _plan: &Plan, w: &Walked) -> Abstract
         hold: hold_at_start(w.callback),
         acknowledged: false,
         lock: HeldLock::Free,
-        interrupts: no_ids(alloc),
+        interrupts: Ids::new(alloc),
     }
 }
 

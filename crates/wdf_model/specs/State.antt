@@ -123,15 +123,15 @@ queue_delivers plan S q = delivers S.control q (is_powered plan S q)
 
 -- whether a received request that is cancelled in queue q goes back to the driver, by EvtIoCanceledOnQueue: not where
 -- the device is closed or the queue has no power (KMDF)
-abbrev pub returns_from : {A : Type 0} → Plan → State A → ℕ → Bool
-returns_from plan S q =
+abbrev pub returns_to : {A : Type 0} → Plan → State A → ℕ → Bool
+returns_to plan S q =
     declares plan callback.EvtIoCanceledOnQueue q && not (is_closed S.control (device_of_queue plan q)) && is_powered plan S q
 
 -- where request r goes that is cancelled in queue q: back to the driver, else it is completed by the framework with
 -- CANCELLED (KMDF)
 abbrev pub withdrawn_place : {A : Type 0} → Plan → State A → ℕ → ℕ → Place
 withdrawn_place plan S q r =
-    if (info_of S.requests r).received && returns_from plan S q then place.Returning (record { 0 = q }) else place.Closing status.Cancelled
+    if (info_of S.requests r).received && returns_to plan S q then place.Returning (record { 0 = q }) else place.Closing status.Cancelled
 
 -- whether no request, arrived or made, is Sent to target t
 abbrev pub nothing_at : {A : Type 0} → State A → ℕ → Bool

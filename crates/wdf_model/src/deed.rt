@@ -156,7 +156,7 @@ pub enum Deed {
     Receive {
         /// The queue whose EvtIoCanceledOnQueue starts.
         queue: ObjectId,
-        /// A request that is Returning from it.
+        /// A request that is Returning to it.
         request: ObjectId,
     },
     /// The driver gives a request back to the head of a queue. (KMDF)
@@ -247,13 +247,13 @@ pub enum Deed {
         /// The queue of the control call.
         queue: ObjectId,
     },
-    /// A device's queues lose power: what returns from a power-managed one is to be completed with
+    /// A device's queues lose power: what returns to a power-managed one is to be completed with
     /// CANCELLED. (own)
     CloseReturning {
         /// The device at `queues_down`.
         device: ObjectId,
     },
-    /// A device is closed: what waits in its queues or returns from them is to be completed with
+    /// A device is closed: what waits in its queues or returns to them is to be completed with
     /// CANCELLED. (own)
     CloseDevice {
         /// The device at `closed`; its queues are Purged for good.

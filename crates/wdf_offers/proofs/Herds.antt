@@ -10,7 +10,7 @@ use Rattle.wdf_base.specs.declared.ids.ObjectId.{ObjectId}
 use Rattle.wdf_base.specs.declared.object.Place.{Place}
 use Rattle.wdf_base.specs.declared.object.Place.TheVariants as place
 use Rattle.wdf_base.specs.declared.plan.Plan.{Plan}
-use Rattle.wdf_base.specs.Places.{is_due, is_owned, is_returning_from, is_sent}
+use Rattle.wdf_base.specs.Places.{is_due, is_owned, is_returning_to, is_sent}
 use Rattle.wdf_model.specs.Ids.{cpu_of}
 use Rattle.wdf_model.specs.Plans.{callback_irql, declares, is_managed}
 use Rattle.wdf_model.specs.State.{State, declared_in, declares_in, handle_in, held_at, is_held_from, is_with_driver}
@@ -226,7 +226,7 @@ due_some : (d o : Bool) (x : Option ObjectId) (q : ℕ) → is_at q (if d && o t
 due_some true o x q h = refl
 due_some false o x q h = absurd (let z : ⊥ = cc in z)
 
-returns_some : (q : ℕ) (p : Place) → is_returning_from q p ≡ true → is_some (returning_queue p) ≡ true
+returns_some : (q : ℕ) (p : Place) → is_returning_to q p ≡ true → is_some (returning_queue p) ≡ true
 returns_some q (place.Returning x) h = refl
 returns_some q _ h = absurd (let z : ⊥ = cc in z)
 

@@ -20,7 +20,7 @@ use Rattle.wdf_base.specs.declared.object.RequestForm.{RequestForm}
 use Rattle.wdf_base.specs.declared.object.RequestForm.TheVariants as form
 use Rattle.wdf_base.specs.declared.rank.Rank.{Rank}
 use Rattle.wdf_base.specs.declared.rank.Rank.TheVariants as rank
-use Rattle.wdf_base.specs.Places.{is_returning_from}
+use Rattle.wdf_base.specs.Places.{is_returning_to}
 use Rattle.wdf_base.specs.Lives.{is_asked, is_cleaned, is_gone, is_past_cleanup}
 use Rattle.wdf_base.specs.declared.object.Life.{Life}
 use Rattle.wdf_base.specs.declared.object.Life.TheVariants as life
@@ -321,7 +321,7 @@ module _ {A : Type 0} (plan : Plan) (m : Meaning A) (S : State A) where
 
   never_due : (cpu : ℕ) (r : Rank) (o k : ℕ) → can_be_due plan S r o ≡ false → offered plan m S (group.StartsFor cpu r o) k ≡ None
   never_due cpu rank.CanceledOnQueue q k h =
-      not_due cpu rank.CanceledOnQueue q k (entry_fails (λ (r : Request). is_returning_from q r.place) no_request refl S.requests.all k h)
+      not_due cpu rank.CanceledOnQueue q k (entry_fails (λ (r : Request). is_returning_to q r.place) no_request refl S.requests.all k h)
   never_due cpu rank.Stop q k h = not_due cpu rank.Stop q k (stops_none (is_managed plan q) (is_held_from S q k) (stop_was_asked S.power k) (settles_next S (nearest_device S.tree q)) h)
   never_due cpu rank.Resume q k h =
       not_due cpu rank.Resume q k

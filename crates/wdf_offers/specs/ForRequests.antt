@@ -1,7 +1,7 @@
 -- Callbacks that are due for many requests of a queue at once: which requests are counted for the queue, and what they all
 -- wait for. (own)
 use Rattle.std.specs.Prelude.{ℕ, ◌≡◌, Bool, true, ◌&&◌, List, filter, Option, Some, None}
-use Rattle.wdf_base.specs.Places.{is_returning_from}
+use Rattle.wdf_base.specs.Places.{is_returning_to}
 use Rattle.wdf_base.specs.declared.call.Callback.{Callback}
 use Rattle.wdf_base.specs.declared.plan.Plan.{Plan}
 use Rattle.wdf_base.specs.declared.rank.Rank.{Rank}
@@ -20,7 +20,7 @@ use Rattle.wdf_model.specs.rules.Starts.{level_fits, life_fits, rank_ready_for}
 use Rattle.wdf_model.specs.rules.Steps.{is_cpu}
 use Rattle.wdf_maps.specs.Counts.{is_at}
 use Rattle.wdf_request.specs.Closing.{due_requests}
-use Rattle.wdf_request.specs.ForQueues.{due_from, returning_requests, returning_from}
+use Rattle.wdf_request.specs.ForQueues.{due_from, returning_requests, returning_to}
 use Rattle.wdf_request.specs.Keys.{due_queue}
 use Rattle.wdf_power.specs.ForQueues.{resuming, resuming_from, resuming_queue, unasked, unasked_from, unasked_queue}
 use Rattle.wdf_offers.specs.Idle.{is_stopping}
@@ -59,14 +59,14 @@ due_for plan S h q = filter (is_due_for plan S h q) (ids_of S.requests.all)
 -- a request is counted for a queue
 abbrev pub is_counted : {A : Type 0} → Herd → State A → ℕ → ℕ → Bool
 is_counted herd.Cancel S q r = is_at q (due_queue (request_of S.requests r))
-is_counted herd.Return S q r = is_returning_from q (place_of S.requests r)
+is_counted herd.Return S q r = is_returning_to q (place_of S.requests r)
 is_counted herd.Stop S q r = is_at q (unasked_queue (holding_of S.power r))
 is_counted herd.Resume S q r = is_at q (resuming_queue (holding_of S.power r))
 
 -- those that are, rising
 abbrev pub counted : {A : Type 0} → Herd → State A → ℕ → List ℕ
 counted herd.Cancel S q = due_from S.requests q
-counted herd.Return S q = returning_from S.requests q
+counted herd.Return S q = returning_to S.requests q
 counted herd.Stop S q = unasked_from S.power q
 counted herd.Resume S q = resuming_from S.power q
 

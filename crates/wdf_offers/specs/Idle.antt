@@ -11,7 +11,7 @@ use Rattle.wdf_base.specs.declared.event.Stage.TheVariants as stage
 use Rattle.wdf_base.specs.declared.event.Step.TheVariants as step
 use Rattle.wdf_base.specs.declared.rank.Rank.{Rank}
 use Rattle.wdf_base.specs.declared.rank.Rank.TheVariants as rank
-use Rattle.wdf_base.specs.Places.{is_returning_from}
+use Rattle.wdf_base.specs.Places.{is_returning_to}
 use Rattle.wdf_base.specs.Lives.{is_cleaned}
 use Rattle.wdf_model.specs.declared.entries.Holding.{Holding}
 use Rattle.wdf_model.specs.declared.entries.Request.{Request}
@@ -80,7 +80,7 @@ can_start_at S _ o = true
 
 -- a callback of a rank for requests can be due on an object
 abbrev pub can_be_due : {A : Type 0} → Plan → State A → Rank → ℕ → Bool
-can_be_due plan S rank.CanceledOnQueue q = list_any (λ (r : Request). is_returning_from q r.place) S.requests.all
+can_be_due plan S rank.CanceledOnQueue q = list_any (λ (r : Request). is_returning_to q r.place) S.requests.all
 can_be_due plan S rank.Stop q = is_stopping plan S q
 can_be_due plan S rank.Resume q = list_any (λ (h : Holding). h.resume_due) S.power.holdings
 can_be_due plan S _ o = true

@@ -31,7 +31,7 @@ impl Herd {
     {
         match self {
             Herd::Cancel => parts.requests().next_due_from(from),
-            Herd::Return => parts.requests().next_returning_from(from),
+            Herd::Return => parts.requests().next_returning_to(from),
             Herd::Stop => parts.power().next_unasked_from(from),
             Herd::Resume => parts.power().next_resuming_from(from),
         }

@@ -160,7 +160,7 @@ fn is_timer_due<A: Agent>(parts: &Parts<A>, place: u32) -> bool
     }
     parts
         .timers()
-        .due(parts.timers().at(place).timer, parts.now())
+        .timer_due(parts.timers().at(place).timer, parts.now())
 }
 
 /// Whether an object counts against the limit: one that is gone doesn't, nor an arrived request.
@@ -175,9 +175,9 @@ fn can_start_at<A: Agent>(parts: &Parts<A>, rank: Rank, o: ObjectId) -> bool
     ensures { result ≡ idle.can_start_at parts.now rank o.0 }
 {
     match rank {
-        Rank::Isr => parts.interrupts().enabled(o),
+        Rank::Isr => parts.interrupts().is_enabled(o),
         Rank::QueueState => parts.control().notify_due(o),
-        Rank::Handler => !parts.queues().is_empty(o) && parts.queues().free(o),
+        Rank::Handler => !parts.queues().is_empty(o) && parts.queues().is_free(o),
         Rank::Sequence => parts.pnp().steps_left(o) > 0,
         Rank::Timed => is_timer_due(parts, o.0),
         Rank::Cleanup => parts.tree().may_clean(o) && counts(parts, o),

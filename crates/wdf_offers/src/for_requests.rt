@@ -128,7 +128,7 @@ impl Herd {
     {
         match self {
             Herd::Cancel => parts.requests().due_from_len(q),
-            Herd::Return => parts.requests().returning_from_len(q),
+            Herd::Return => parts.requests().returning_to_len(q),
             Herd::Stop => parts.power().unasked_from_len(q),
             Herd::Resume => parts.power().resuming_from_len(q),
         }

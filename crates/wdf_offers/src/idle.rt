@@ -67,7 +67,7 @@ fn can_be_due<A: Agent>(plan: &IndexedPlan, parts: &Parts<A>, rank: Rank, object
     ensures { result ≡ idle.can_be_due plan.now parts.now rank object.0 }
 {
     match rank {
-        Rank::CanceledOnQueue => parts.requests().returns_from(object),
+        Rank::CanceledOnQueue => parts.requests().returns_to(object),
         Rank::Stop => is_stopping(plan, parts, object),
         Rank::Resume => parts.power().some_resume_due(),
         _ => true,

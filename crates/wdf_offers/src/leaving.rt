@@ -64,14 +64,14 @@ fn next_busy_for_cleanup<A: Agent>(parts: &Parts<A>, from: ObjectId) -> Option<O
 fn may_leave_queue<A: Agent>(parts: &Parts<A>, o: ObjectId) -> bool
     ensures { result ≡ (is_work_queued parts.now.work_items o.0 && nobody_on parts.now.cpus o.0) }
 {
-    parts.work_items().queued(o) && parts.cpus().nobody_on(o)
+    parts.work_items().is_work_queued(o) && parts.cpus().nobody_on(o)
 }
 
 /// Whether a timer is due, and no frame is on it.
 fn may_fire<A: Agent>(parts: &Parts<A>, o: ObjectId) -> bool
     ensures { result ≡ (timer_due parts.now.timers o.0 parts.now.clock && nobody_on parts.now.cpus o.0) }
 {
-    parts.timers().due(o, parts.now()) && parts.cpus().nobody_on(o)
+    parts.timers().timer_due(o, parts.now()) && parts.cpus().nobody_on(o)
 }
 
 /// How many timers are due. There are at most `OBJECTS` objects.
@@ -213,10 +213,10 @@ impl Leaving {
             Leaving::Cleanup => parts.tree().may_clean(o) && !clean_ready(parts, o),
             Leaving::Destroy => parts.tree().may_destroy(o) && !destroy_ready(parts, o),
             Leaving::Work { .. } => {
-                parts.work_items().queued(o) && !may_leave_queue(parts, o)
+                parts.work_items().is_work_queued(o) && !may_leave_queue(parts, o)
             }
             Leaving::Timed { .. } => {
-                parts.timers().due(o, parts.now()) && !may_fire(parts, o)
+                parts.timers().timer_due(o, parts.now()) && !may_fire(parts, o)
             }
         }
     }

@@ -104,7 +104,7 @@ fn dpc_start<A: Agent>(
 ) -> Option<Event>
     ensures { result ≡ search.if_allowed plan.now A.meaning parts.now (groups.start_at plan.now parts.now cpu.0 rank.Deferred place) }
 {
-    let o = parts.dpcs().head(cpu)?;
+    let o = parts.dpcs().dpc_head(cpu)?;
     let callback = parts.tree().kind(o).dpc_function();
     start_if(plan, parts, cpu, callback, o)
 }
@@ -149,7 +149,7 @@ fn front_start<A: Agent>(
 ) -> Option<Event>
     ensures { result ≡ search.if_allowed plan.now A.meaning parts.now (groups.start_at plan.now parts.now cpu.0 rank.Handler q.0) }
 {
-    let r = parts.queues().head(q)?;
+    let r = parts.queues().front(q)?;
     let callback = plan.handler_for(q, parts.requests().info(r).form)?;
     start_for_if(plan, parts, cpu, callback, q, r)
 }

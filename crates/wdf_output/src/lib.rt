@@ -6,6 +6,6 @@ mod refusal;
 mod texts;
 mod trace;
 
-pub use refusal::{Refusal, refusal_line, refusal_status};
+pub use refusal::Refusal;
 pub use texts::{say, tell};
 pub use trace::{status_of, write_end, write_line, write_run};

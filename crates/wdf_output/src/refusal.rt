@@ -34,29 +34,31 @@ pub enum Refusal {
     NoPlan(PlanRefusal),
 }
 
-/// The line that gives a refusal, with its line feed.
-pub fn refusal_line(refusal: Refusal) -> Message
-    ensures { result ≡ refusal_line refusal }
-{
-    match refusal {
-        Refusal::ReadFault => Message::new(b"read fault\n"),
-        Refusal::TooLarge => Message::new(b"input too large\n"),
-        Refusal::NoMemory => Message::new(NO_MEMORY),
-        Refusal::NoScene(refusal) => parse_line(refusal),
-        Refusal::NoPlan(refusal) => plan_line(refusal),
+impl Refusal {
+    /// The line that gives the refusal, with its line feed.
+    pub fn line(self) -> Message
+        ensures { result ≡ refusal_line self }
+    {
+        match self {
+            Refusal::ReadFault => Message::new(b"read fault\n"),
+            Refusal::TooLarge => Message::new(b"input too large\n"),
+            Refusal::NoMemory => Message::new(NO_MEMORY),
+            Refusal::NoScene(refusal) => parse_line(refusal),
+            Refusal::NoPlan(refusal) => plan_line(refusal),
+        }
     }
-}
 
-/// The status of a refusal.
-pub fn refusal_status(refusal: Refusal) -> u8
-    ensures { result ≡ refusal_status refusal }
-{
-    match refusal {
-        Refusal::ReadFault => Exit::ReadFault as u8,
-        Refusal::TooLarge => Exit::TooLarge as u8,
-        Refusal::NoMemory => Exit::NoMemory as u8,
-        Refusal::NoScene(refusal) => parse_status(refusal),
-        Refusal::NoPlan(refusal) => plan_status(refusal),
+    /// The status of the refusal.
+    pub fn status(self) -> u8
+        ensures { result ≡ refusal_status self }
+    {
+        match self {
+            Refusal::ReadFault => Exit::ReadFault as u8,
+            Refusal::TooLarge => Exit::TooLarge as u8,
+            Refusal::NoMemory => Exit::NoMemory as u8,
+            Refusal::NoScene(refusal) => parse_status(refusal),
+            Refusal::NoPlan(refusal) => plan_status(refusal),
+        }
     }
 }
 

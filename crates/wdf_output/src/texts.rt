@@ -4,7 +4,7 @@ ghost use Rattle.wdf_io.specs.Outside.{EndsRefused};
 ghost use Rattle.wdf_output.specs.Refusals.{refusal_line, refusal_status};
 ghost use Rattle.wdf_output.specs.Said.{Says, sinking};
 
-use crate::refusal::{Refusal, refusal_line, refusal_status};
+use crate::refusal::Refusal;
 use wdf_exit::Exit;
 use wdf_io::{Sink, write_all};
 
@@ -26,6 +26,6 @@ pub fn tell<K: Sink>(sink: &mut K, refusal: Refusal) -> u8
     ensures said { Says (sinking (K.written sink.old) (K.written sink.new) (K.faults sink.old) (K.faults sink.new)) (refusal_line refusal) (refusal_status refusal) result }
     ensures not_again { result ≡ 13 → EndsRefused K.refused K.faults sink.old sink.new }
 {
-    let line = refusal_line(refusal);
-    say(sink, line.bytes(), refusal_status(refusal))
+    let line = refusal.line();
+    say(sink, line.bytes(), refusal.status())
 }

@@ -14,7 +14,7 @@ use Rattle.wdf_scene.specs.Blocks as blocks
 use Rattle.wdf_scene.specs.Written.{WrittenLine, is_written, line_at, nodes_at, written_size, picks_in, lines_at, exprs_at, scene_of, AreLines}
 use Rattle.wdf_tokens.specs.Tokens.{lines_of}
 use Rattle.wdf_scene_lines.specs.Building.{next_node}
-use Rattle.wdf_parse.specs.SoFar.{TextSoFar}
+use Rattle.wdf_parse.specs.declared.reader.Reader.{Reader}
 use Rattle.wdf_parse.specs.declared.refusal.ParseRefusal.{ParseRefusal}
 use Rattle.wdf_parse.specs.declared.refusal.ParseRefusal.TheVariants as refusal
 use Rattle.wdf_parse.specs.Standing.{first_number}
@@ -24,7 +24,7 @@ use Rattle.wdf_parse.proofs.History.{AllGood, taken_by, FrontHistory, front_hist
 use Rattle.wdf_parse.proofs.PrintedLines.{length_nodes_at}
 
 -- as many lines opened blocks as blocks are open
-abbrev IsBalanced : TextSoFar → Type 0
+abbrev IsBalanced : Reader → Type 0
 IsBalanced r = length r.place.openers ≡ length r.place.position.blocks
 
 opened_balance : (o : Option Block) (number : ℕ) (openers : List ℕ) (bs : List Block) → length openers ≡ length bs → length (with_opened (option_map (λ b. number) o) openers) ≡ length (with_opened o bs)
@@ -44,14 +44,14 @@ balance_step p openers number line.Else stands h = else_balance openers p.blocks
 balance_step p openers number form stands h = opened_balance (opened form) number openers p.blocks h
 
 -- what some lines add to a reader
-pub record Adds (r : TextSoFar) (ws : List WrittenLine) (now : TextSoFar) : Type 0 where
+pub record Adds (r : Reader) (ws : List WrittenLine) (now : Reader) : Type 0 where
   pub version : now.builder.version ≡ r.builder.version
   pub exprs : now.builder.exprs ≡ r.builder.exprs ++ exprs_at (next_node r.builder) ws
   pub lines : now.builder.lines ≡ r.builder.lines ++ lines_at (next_node r.builder) ws
   pub position : blocks.after_lines (Some r.place.position) (map (λ l. l.form) (lines_at (next_node r.builder) ws)) ≡ Some now.place.position
   pub balance : IsBalanced r → IsBalanced now
 
-adds_step : (r now : TextSoFar) (w : WrittenLine) (ws : List WrittenLine) → may_stand r.place.position (line_at (next_node r.builder) w.written) ≡ true → Adds (with_written r w.number w.written) ws now → Adds r (w ∷ ws) now
+adds_step : (r now : Reader) (w : WrittenLine) (ws : List WrittenLine) → may_stand r.place.position (line_at (next_node r.builder) w.written) ≡ true → Adds (with_written r w.number w.written) ws now → Adds r (w ∷ ws) now
 adds_step r now w ws stands h =
     let base = next_node r.builder in
     let further : length (r.builder.exprs ++ nodes_at base w.written) ≡ base + written_size w.written =
@@ -70,11 +70,11 @@ adds_step r now w ws stands h =
       balance = λ b. h.balance (balance_step r.place.position r.place.openers w.number (line_at base w.written) stands b);
     }
 
-adds_by : (r now : TextSoFar) (w : WrittenLine) (ws : List WrittenLine) (b : Bool) → may_stand r.place.position (line_at (next_node r.builder) w.written) ≡ b → ((s : TextSoFar) → taken_by (Some s) ws ≡ Some now → Adds s ws now) → taken_by (cond b (Some (with_written r w.number w.written)) None) ws ≡ Some now → Adds r (w ∷ ws) now
+adds_by : (r now : Reader) (w : WrittenLine) (ws : List WrittenLine) (b : Bool) → may_stand r.place.position (line_at (next_node r.builder) w.written) ≡ b → ((s : Reader) → taken_by (Some s) ws ≡ Some now → Adds s ws now) → taken_by (cond b (Some (with_written r w.number w.written)) None) ws ≡ Some now → Adds r (w ∷ ws) now
 adds_by r now w ws true stands onward e = adds_step r now w ws stands (onward (with_written r w.number w.written) e)
 adds_by r now w ws false stands onward e = absurd (let z : ⊥ = cc in z)
 
-pub adds : (ws : List WrittenLine) (now r : TextSoFar) → taken_by (Some r) ws ≡ Some now → Adds r ws now
+pub adds : (ws : List WrittenLine) (now r : Reader) → taken_by (Some r) ws ≡ Some now → Adds r ws now
 adds [] now r e =
     let same : r ≡ now = cc in
     subst (λ s. Adds r [] s) same (record { version = refl; exprs = sym (append-nil r.builder.exprs); lines = sym (append-nil r.builder.lines); position = refl; balance = λ b. b })
@@ -85,22 +85,22 @@ all_written [] h = refl
 all_written (w ∷ ws) h = rw h.0.written (all_written ws h.1)
 
 -- where a text may end
-pub record Ends (r : Result TextSoFar ParseRefusal) (s : Scene) : Type 0 where
-  pub now : TextSoFar
+pub record Ends (r : Result Reader ParseRefusal) (s : Scene) : Type 0 where
+  pub now : Reader
   pub is : r ≡ Ok now
   pub headers : (now.place.position.headers == 3) ≡ true
   pub openers : now.place.openers ≡ []
   pub scene : s ≡ now.builder
 
-ends_open : (now : TextSoFar) (s : Scene) (openers : List ℕ) → now.place.openers ≡ openers → (now.place.position.headers == 3) ≡ true → closed (first_number openers) now.builder ≡ Ok s → Ends (Ok now) s
+ends_open : (now : Reader) (s : Scene) (openers : List ℕ) → now.place.openers ≡ openers → (now.place.position.headers == 3) ≡ true → closed (first_number openers) now.builder ≡ Ok s → Ends (Ok now) s
 ends_open now s [] is headers e = record { now = now; is = refl; headers = headers; openers = is; scene = let same : now.builder ≡ s = cc in sym same }
 ends_open now s (n ∷ ns) is headers e = absurd (let z : ⊥ = cc in z)
 
-ends_by : (past : ℕ) (now : TextSoFar) (s : Scene) (b : Bool) → (now.place.position.headers == 3) ≡ b → cond b (closed (first_number now.place.openers) now.builder) (Err (refusal.BadLine past)) ≡ Ok s → Ends (Ok now) s
+ends_by : (past : ℕ) (now : Reader) (s : Scene) (b : Bool) → (now.place.position.headers == 3) ≡ b → cond b (closed (first_number now.place.openers) now.builder) (Err (refusal.BadLine past)) ≡ Ok s → Ends (Ok now) s
 ends_by past now s true headers e = ends_open now s now.place.openers refl headers e
 ends_by past now s false headers e = absurd (let z : ⊥ = cc in z)
 
-pub ends : (past : ℕ) (r : Result TextSoFar ParseRefusal) (s : Scene) → finished past r ≡ Ok s → Ends r s
+pub ends : (past : ℕ) (r : Result Reader ParseRefusal) (s : Scene) → finished past r ≡ Ok s → Ends r s
 ends past (Ok now) s e = ends_by past now s (now.place.position.headers == 3) refl e
 ends past (Err f) s e = absurd (let z : ⊥ = cc in z)
 
@@ -108,14 +108,14 @@ none_open : (bs : List Block) → 0 ≡ length bs → is_none (innermost bs) ≡
 none_open [] h = refl
 none_open (b ∷ bs) h = absurd (omega arith)
 
-outside : (now : TextSoFar) → (now.place.position.headers == 3) ≡ true → now.place.openers ≡ [] → IsBalanced now → IsTrue (is_outside now.place.position)
+outside : (now : Reader) → (now.place.position.headers == 3) ≡ true → now.place.openers ≡ [] → IsBalanced now → IsTrue (is_outside now.place.position)
 outside now headers openers balanced =
     let empty : 0 ≡ length now.place.position.blocks = ap (λ (ns : List ℕ). length ns) (sym openers) ∙ balanced in
     rw (headers, none_open now.place.position.blocks empty) refl
 
 -- what is known of a text that is read
 pub record IsRead (text : List ℕ) (s : Scene) : Type 0 where
-  pub now : TextSoFar
+  pub now : Reader
   pub history : FrontHistory 1 (lines_of text) now
   pub headers : (now.place.position.headers == 3) ≡ true
   pub openers : now.place.openers ≡ []

@@ -13,7 +13,7 @@ use Rattle.wdf_scene_lines.specs.Building.{next_node}
 use Rattle.wdf_scene_lines.specs.Reading.{read_written}
 use Rattle.wdf_scene_lines.specs.Spelling.{written_tokens}
 use Rattle.wdf_scene_lines.proofs.Completeness.{written_read}
-use Rattle.wdf_parse.specs.SoFar.{TextSoFar}
+use Rattle.wdf_parse.specs.declared.reader.Reader.{Reader}
 use Rattle.wdf_parse.specs.StandsFor.{TokenLine, with_token_line, token_lines, spelled_line, version_tokens, version_lines}
 use Rattle.wdf_parse.specs.Texts.{opening, with_written, line_taken, is_version, is_at_front, or_bad_line, after_tokens, after_line, after_lines}
 use Rattle.wdf_parse.proofs.History.{taken_by}
@@ -22,8 +22,8 @@ use Rattle.wdf_parse.proofs.PrintedLines.{length_nodes_at}
 use Rattle.wdf_parse.proofs.ReadBack.{version_is}
 
 -- the lines are taken
-pub record Forward (r : TextSoFar) (number : ℕ) (lines : List (List ℕ)) (ws : List WrittenLine) : Type 0 where
-  pub now : TextSoFar
+pub record Forward (r : Reader) (number : ℕ) (lines : List (List ℕ)) (ws : List WrittenLine) : Type 0 where
+  pub now : Reader
   pub gives : after_lines (Ok r) number lines ≡ Ok now
   pub taken : taken_by (Some r) ws ≡ Some now
 
@@ -36,13 +36,13 @@ are_written ws = list_all (λ w. is_written w.written) ws
 
 -- what is known of the lines after
 abbrev Goes : ℕ → List (List ℕ) → Type 0
-Goes number lines = (r : TextSoFar) (ws : List WrittenLine) (p : Position) → token_lines number lines ≡ Some (map spelled_line ws) → are_written ws ≡ true → blocks.after_lines (Some r.place.position) (forms_from (next_node r.builder) ws) ≡ Some p → Forward r number lines ws
+Goes number lines = (r : Reader) (ws : List WrittenLine) (p : Position) → token_lines number lines ≡ Some (map spelled_line ws) → are_written ws ≡ true → blocks.after_lines (Some r.place.position) (forms_from (next_node r.builder) ws) ≡ Some p → Forward r number lines ws
 
 stays_none : (fs : List SceneLine) → blocks.after_lines None fs ≡ None
 stays_none [] = refl
 stays_none (f ∷ fs) = stays_none fs
 
-line_goes : (r : TextSoFar) (number : ℕ) (l : List ℕ) (t : Token) (ts : List Token) (w : Written) → line_reading l ≡ Ok (t ∷ ts) → t ∷ ts ≡ written_tokens w → is_written w ≡ true → may_stand r.place.position (line_at (next_node r.builder) w) ≡ true → after_line r number l ≡ Ok (with_written r number w)
+line_goes : (r : Reader) (number : ℕ) (l : List ℕ) (t : Token) (ts : List Token) (w : Written) → line_reading l ≡ Ok (t ∷ ts) → t ∷ ts ≡ written_tokens w → is_written w ≡ true → may_stand r.place.position (line_at (next_node r.builder) w) ≡ true → after_line r number l ≡ Ok (with_written r number w)
 unfolding after_line
 line_goes r number l t ts w is spells written stands =
     let read : read_written (t ∷ ts) ≡ Some w = ap read_written spells ∙ written_read w written in
@@ -51,11 +51,11 @@ line_goes r number l t ts w is spells written stands =
     ∙ ap (λ o. or_bad_line number (line_taken r number o)) read
     ∙ ap (λ b. or_bad_line number (cond b (Some (with_written r number w)) None)) stands
 
-further : (r : TextSoFar) (number : ℕ) (w : Written) → next_node r.builder + written_size w ≡ next_node (with_written r number w).builder
+further : (r : Reader) (number : ℕ) (w : Written) → next_node r.builder + written_size w ≡ next_node (with_written r number w).builder
 further r number w =
     sym (length-append r.builder.exprs (nodes_at (next_node r.builder) w) ∙ ap (λ n. next_node r.builder + n) (length_nodes_at (next_node r.builder) w))
 
-stands_goes : (r : TextSoFar) (number : ℕ) (l : List ℕ) (ls : List (List ℕ)) (t : Token) (ts : List Token) (w : WrittenLine) (ws : List WrittenLine) (p : Position) (b : Bool)
+stands_goes : (r : Reader) (number : ℕ) (l : List ℕ) (ls : List (List ℕ)) (t : Token) (ts : List Token) (w : WrittenLine) (ws : List WrittenLine) (p : Position) (b : Bool)
     → Goes (suc number) ls → line_reading l ≡ Ok (t ∷ ts) → t ∷ ts ≡ written_tokens w.written → number ≡ w.number
     → token_lines (suc number) ls ≡ Some (map spelled_line ws) → is_written w.written ≡ true → are_written ws ≡ true
     → may_stand r.place.position (line_at (next_node r.builder) w.written) ≡ b
@@ -64,7 +64,7 @@ stands_goes : (r : TextSoFar) (number : ℕ) (l : List ℕ) (ls : List (List ℕ
 stands_goes r number l ls t ts w ws p false onward is spells numbers tokens written goods stands e =
     absurd (let none : None ≡ Some p = sym (stays_none (forms_from (next_node r.builder + written_size w.written) ws)) ∙ e in let z : ⊥ = cc in z)
 stands_goes r number l ls t ts w ws p true onward is spells numbers tokens written goods stands e =
-    let next : TextSoFar = with_written r w.number w.written in
+    let next : Reader = with_written r w.number w.written in
     let there : blocks.after_lines (Some next.place.position) (forms_from (next_node next.builder) ws) ≡ Some p =
     ap (λ n. blocks.after_lines (Some next.place.position) (forms_from n ws)) (sym (further r w.number w.written)) ∙ e in
     let behind = onward next ws p tokens goods there in
@@ -75,11 +75,11 @@ stands_goes r number l ls t ts w ws p true onward is spells numbers tokens writt
       taken = ap (λ c. taken_by (cond c (Some next) None) ws) stands ∙ behind.taken;
     }
   where
-    step : {next now : TextSoFar} → after_line r number l ≡ Ok next → after_lines (Ok next) (suc number) ls ≡ Ok now → after_lines (Ok r) number (l ∷ ls) ≡ Ok now
+    step : {next now : Reader} → after_line r number l ≡ Ok next → after_lines (Ok next) (suc number) ls ≡ Ok now → after_lines (Ok r) number (l ∷ ls) ≡ Ok now
     step here behind = ap (λ x. after_lines x (suc number) ls) here ∙ behind
 
 -- the first of the lines, where it has tokens
-split_goes : (r : TextSoFar) (number : ℕ) (l : List ℕ) (ls : List (List ℕ)) (t : Token) (ts : List Token) (rest : List TokenLine) (ws : List WrittenLine) (p : Position)
+split_goes : (r : Reader) (number : ℕ) (l : List ℕ) (ls : List (List ℕ)) (t : Token) (ts : List Token) (rest : List TokenLine) (ws : List WrittenLine) (p : Position)
     → Goes (suc number) ls → line_reading l ≡ Ok (t ∷ ts) → token_lines (suc number) ls ≡ Some rest
     → record { number = number; tokens = t ∷ ts } ∷ rest ≡ map spelled_line ws
     → are_written ws ≡ true → blocks.after_lines (Some r.place.position) (forms_from (next_node r.builder) ws) ≡ Some p
@@ -93,7 +93,7 @@ split_goes r number l ls t ts rest (w ∷ ws) p onward is tokens e goods there =
     (ap (λ (x : TokenLine). x.tokens) first) (ap (λ (x : TokenLine). x.number) first) (tokens ∙ ap (λ (xs : List TokenLine). Some xs) behind)
     (both_left (is_written w.written) (are_written ws) goods) (both_right (is_written w.written) (are_written ws) goods) refl there
 
-some_goes : (r : TextSoFar) (number : ℕ) (l : List ℕ) (ls : List (List ℕ)) (t : Token) (ts : List Token) (rest : Option (List TokenLine)) (ws : List WrittenLine) (p : Position)
+some_goes : (r : Reader) (number : ℕ) (l : List ℕ) (ls : List (List ℕ)) (t : Token) (ts : List Token) (rest : Option (List TokenLine)) (ws : List WrittenLine) (p : Position)
     → Goes (suc number) ls → line_reading l ≡ Ok (t ∷ ts) → token_lines (suc number) ls ≡ rest
     → option_map (λ (xs : List TokenLine). record { number = number; tokens = t ∷ ts } ∷ xs) rest ≡ Some (map spelled_line ws)
     → are_written ws ≡ true → blocks.after_lines (Some r.place.position) (forms_from (next_node r.builder) ws) ≡ Some p
@@ -103,7 +103,7 @@ some_goes r number l ls t ts (Some rest) ws p onward is tokens e goods there =
     let inner : record { number = number; tokens = t ∷ ts } ∷ rest ≡ map spelled_line ws = cc in
     split_goes r number l ls t ts rest ws p onward is tokens inner goods there
 
-reading_goes : (r : TextSoFar) (number : ℕ) (l : List ℕ) (ls : List (List ℕ)) (reading : Result (List Token) TokenFault) (ws : List WrittenLine) (p : Position)
+reading_goes : (r : Reader) (number : ℕ) (l : List ℕ) (ls : List (List ℕ)) (reading : Result (List Token) TokenFault) (ws : List WrittenLine) (p : Position)
     → Goes (suc number) ls → line_reading l ≡ reading
     → with_token_line number reading (token_lines (suc number) ls) ≡ Some (map spelled_line ws)
     → are_written ws ≡ true → blocks.after_lines (Some r.place.position) (forms_from (next_node r.builder) ws) ≡ Some p
@@ -115,7 +115,7 @@ reading_goes r number l ls (Ok []) ws p onward is e goods there =
     record { now = behind.now; gives = ap (λ x. after_lines (after_tokens r number x) (suc number) ls) is ∙ behind.gives; taken = behind.taken }
 reading_goes r number l ls (Ok (t ∷ ts)) ws p onward is e goods there = some_goes r number l ls t ts (token_lines (suc number) ls) ws p onward is refl e goods there
 
-none_goes : (r : TextSoFar) (number : ℕ) (ws : List WrittenLine) → Some [] ≡ Some (map spelled_line ws) → Forward r number [] ws
+none_goes : (r : Reader) (number : ℕ) (ws : List WrittenLine) → Some [] ≡ Some (map spelled_line ws) → Forward r number [] ws
 none_goes r number [] e = record { now = r; gives = refl; taken = refl }
 none_goes r number (w ∷ ws) e = absurd (let z : ⊥ = cc in z)
 
@@ -125,7 +125,7 @@ forward (l ∷ ls) number r ws p e goods there = reading_goes r number l ls (lin
 
 -- the lines are taken from the front of a text
 pub record ForwardFront (v number : ℕ) (lines : List (List ℕ)) (ws : List WrittenLine) : Type 0 where
-  pub now : TextSoFar
+  pub now : Reader
   pub gives : after_lines (Ok (opening 1)) number lines ≡ Ok now
   pub taken : taken_by (Some (opening v)) ws ≡ Some now
 

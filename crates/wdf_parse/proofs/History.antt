@@ -23,7 +23,7 @@ use Rattle.wdf_scene_lines.specs.Building.{next_node}
 use Rattle.wdf_scene_lines.specs.Reading.{read_written}
 use Rattle.wdf_scene_lines.specs.Spelling.{written_tokens}
 use Rattle.wdf_scene_lines.proofs.LineSoundness.{read_spelled}
-use Rattle.wdf_parse.specs.SoFar.{TextSoFar}
+use Rattle.wdf_parse.specs.declared.reader.Reader.{Reader}
 use Rattle.wdf_parse.specs.StandsFor.{with_token_line, token_lines, spelled_line, version_tokens, version_lines}
 use Rattle.wdf_parse.specs.Texts.{opening, with_written, line_taken, version_mark, is_version, is_at_front, tokens_taken, or_bad_line, after_tokens, after_line, after_lines}
 
@@ -43,13 +43,13 @@ good_of ts w fit read =
     record { read = ap read_written s.tokens ∙ read; fit = ap (list_all is_token) s.tokens ∙ fit; written = s.written }
 
 -- some lines are taken in turn
-abbrev pub taken_by : Option TextSoFar → List WrittenLine → Option TextSoFar
+abbrev pub taken_by : Option Reader → List WrittenLine → Option Reader
 taken_by None ws = None
 taken_by (Some r) [] = Some r
 taken_by (Some r) (w ∷ ws) = taken_by (line_taken r w.number (Some w.written)) ws
 
 -- what was read between two places
-pub record History (r : TextSoFar) (number : ℕ) (lines : List (List ℕ)) (now : TextSoFar) : Type 0 where
+pub record History (r : Reader) (number : ℕ) (lines : List (List ℕ)) (now : Reader) : Type 0 where
   pub ws : List WrittenLine
   pub good : AllGood ws
   pub taken : taken_by (Some r) ws ≡ Some now
@@ -70,10 +70,10 @@ first_not_front (line.Level (Some l)) h = absurd (let z : ⊥ = cc in z)
 first_not_front _ h = absurd (let z : ⊥ = cc in z)
 
 -- what is known of the lines after
-abbrev Onward : ℕ → List (List ℕ) → TextSoFar → Type 0
-Onward number lines now = (r : TextSoFar) → is_at_front r.place.position ≡ false → after_lines (Ok r) number lines ≡ Ok now → History r number lines now
+abbrev Onward : ℕ → List (List ℕ) → Reader → Type 0
+Onward number lines now = (r : Reader) → is_at_front r.place.position ≡ false → after_lines (Ok r) number lines ≡ Ok now → History r number lines now
 
-empty_line : (r now : TextSoFar) (number : ℕ) (l : List ℕ) (ls : List (List ℕ)) → line_reading l ≡ Ok [] → History r (suc number) ls now → History r number (l ∷ ls) now
+empty_line : (r now : Reader) (number : ℕ) (l : List ℕ) (ls : List (List ℕ)) → line_reading l ≡ Ok [] → History r (suc number) ls now → History r number (l ∷ ls) now
 empty_line r now number l ls is h = record {
   ws = h.ws;
   good = h.good;
@@ -82,7 +82,7 @@ empty_line r now number l ls is h = record {
 }
 
 -- one line more in front
-one_line : (r now : TextSoFar) (number : ℕ) (l : List ℕ) (ls : List (List ℕ)) (t : Token) (ts : List Token) (w : Written)
+one_line : (r now : Reader) (number : ℕ) (l : List ℕ) (ls : List (List ℕ)) (t : Token) (ts : List Token) (w : Written)
     → line_reading l ≡ Ok (t ∷ ts) → read_written (t ∷ ts) ≡ Some w → may_stand r.place.position (line_at (next_node r.builder) w) ≡ true
     → History (with_written r number w) (suc number) ls now → History r number (l ∷ ls) now
 one_line r now number l ls t ts w is read stands h =
@@ -96,7 +96,7 @@ one_line r now number l ls t ts w is read stands h =
           ∙ ap (λ xs. Some (record { number = number; tokens = xs } ∷ map spelled_line h.ws)) (sym s.tokens);
     }
 
-stood : (r now : TextSoFar) (number : ℕ) (l : List ℕ) (ls : List (List ℕ)) (t : Token) (ts : List Token) (w : Written) (b : Bool)
+stood : (r now : Reader) (number : ℕ) (l : List ℕ) (ls : List (List ℕ)) (t : Token) (ts : List Token) (w : Written) (b : Bool)
     → line_reading l ≡ Ok (t ∷ ts) → read_written (t ∷ ts) ≡ Some w → may_stand r.place.position (line_at (next_node r.builder) w) ≡ b
     → is_at_front (moved r.place.position (line_at (next_node r.builder) w)) ≡ false
     → Onward (suc number) ls now
@@ -104,7 +104,7 @@ stood : (r now : TextSoFar) (number : ℕ) (l : List ℕ) (ls : List (List ℕ))
 stood r now number l ls t ts w true is read stands inside onward e = one_line r now number l ls t ts w is read stands (onward (with_written r number w) inside e)
 stood r now number l ls t ts w false is read stands inside onward e = absurd (let z : ⊥ = cc in z)
 
-formed : (r now : TextSoFar) (number : ℕ) (l : List ℕ) (ls : List (List ℕ)) (t : Token) (ts : List Token) (w : Option Written)
+formed : (r now : Reader) (number : ℕ) (l : List ℕ) (ls : List (List ℕ)) (t : Token) (ts : List Token) (w : Option Written)
     → line_reading l ≡ Ok (t ∷ ts) → read_written (t ∷ ts) ≡ w
     → ((x : Written) → may_stand r.place.position (line_at (next_node r.builder) x) ≡ true → is_at_front (moved r.place.position (line_at (next_node r.builder) x)) ≡ false)
     → Onward (suc number) ls now
@@ -117,7 +117,7 @@ formed r now number l ls t ts (Some w) is read inside onward e =
     by_standing true stands e = stood r now number l ls t ts w true is read stands (inside w stands) onward e
     by_standing false stands e = absurd (let z : ⊥ = cc in z)
 
-inside_by : (r now : TextSoFar) (number : ℕ) (l : List ℕ) (ls : List (List ℕ)) (reading : Result (List Token) TokenFault)
+inside_by : (r now : Reader) (number : ℕ) (l : List ℕ) (ls : List (List ℕ)) (reading : Result (List Token) TokenFault)
     → is_at_front r.place.position ≡ false → line_reading l ≡ reading → Onward (suc number) ls now
     → after_lines (after_tokens r number reading) (suc number) ls ≡ Ok now → History r number (l ∷ ls) now
 inside_by r now number l ls (Err f) inside is onward e = absurd (let z : ⊥ = cc in z)
@@ -131,13 +131,13 @@ inside_by r now number l ls (Ok (t ∷ ts)) inside is onward e =
     (ap (λ o. after_lines (or_bad_line number o) (suc number) ls) (sym plain) ∙ e)
 
 -- after the front of a text
-history : (lines : List (List ℕ)) (number : ℕ) (now : TextSoFar) → Onward number lines now
+history : (lines : List (List ℕ)) (number : ℕ) (now : Reader) → Onward number lines now
 unfolding after_line
 history [] number now r inside e = record { ws = []; good = tt; taken = cc; tokens = refl }
 history (l ∷ ls) number now r inside e = inside_by r now number l ls (line_reading l) inside refl (history ls (suc number) now) e
 
 -- what was read of a text
-pub record FrontHistory (number : ℕ) (lines : List (List ℕ)) (now : TextSoFar) : Type 0 where
+pub record FrontHistory (number : ℕ) (lines : List (List ℕ)) (now : Reader) : Type 0 where
   pub version : ℕ
   pub known : (version ≡ 1) ⊎ (version ≡ 2)
   pub first : ℕ
@@ -155,10 +155,10 @@ version_only : (ts : List Token) → is_version ts ≡ true → ts ≡ version_t
 version_only (token.Word w ∷ token.Number n ∷ []) h = mark_only w (keyword_of w) n refl h
 version_only _ h = absurd (let z : ⊥ = cc in z)
 
-from_one : (number : ℕ) (lines : List (List ℕ)) (now : TextSoFar) → History (opening 1) number lines now → FrontHistory number lines now
+from_one : (number : ℕ) (lines : List (List ℕ)) (now : Reader) → History (opening 1) number lines now → FrontHistory number lines now
 from_one number lines now h = record { version = 1; known = inl refl; first = 0; ws = h.ws; good = h.good; taken = h.taken; tokens = h.tokens }
 
-from_two : (number : ℕ) (l : List ℕ) (ls : List (List ℕ)) (t : Token) (ts : List Token) (now : TextSoFar) → line_reading l ≡ Ok (t ∷ ts) → is_version (t ∷ ts) ≡ true → History (opening 2) (suc number) ls now → FrontHistory number (l ∷ ls) now
+from_two : (number : ℕ) (l : List ℕ) (ls : List (List ℕ)) (t : Token) (ts : List Token) (now : Reader) → line_reading l ≡ Ok (t ∷ ts) → is_version (t ∷ ts) ≡ true → History (opening 2) (suc number) ls now → FrontHistory number (l ∷ ls) now
 from_two number l ls t ts now is mark h = record {
   version = 2;
   known = inr refl;
@@ -171,7 +171,7 @@ from_two number l ls t ts now is mark h = record {
       ∙ ap (λ xs. Some (record { number = number; tokens = xs } ∷ map spelled_line h.ws)) (version_only (t ∷ ts) mark);
 }
 
-front_empty : (number : ℕ) (l : List ℕ) (ls : List (List ℕ)) (now : TextSoFar) → line_reading l ≡ Ok [] → FrontHistory (suc number) ls now → FrontHistory number (l ∷ ls) now
+front_empty : (number : ℕ) (l : List ℕ) (ls : List (List ℕ)) (now : Reader) → line_reading l ≡ Ok [] → FrontHistory (suc number) ls now → FrontHistory number (l ∷ ls) now
 front_empty number l ls now is h = record {
   version = h.version;
   known = h.known;
@@ -182,7 +182,7 @@ front_empty number l ls now is h = record {
   tokens = ap (λ x. with_token_line number x (token_lines (suc number) ls)) is ∙ h.tokens;
 }
 
-front_marked : (number : ℕ) (l : List ℕ) (ls : List (List ℕ)) (t : Token) (ts : List Token) (now : TextSoFar) (b : Bool)
+front_marked : (number : ℕ) (l : List ℕ) (ls : List (List ℕ)) (t : Token) (ts : List Token) (now : Reader) (b : Bool)
     → line_reading l ≡ Ok (t ∷ ts) → is_version (t ∷ ts) ≡ b
     → after_lines (or_bad_line number (cond b (Some (opening 2)) (line_taken (opening 1) number (read_written (t ∷ ts))))) (suc number) ls ≡ Ok now
     → FrontHistory number (l ∷ ls) now
@@ -190,7 +190,7 @@ front_marked number l ls t ts now true is mark e = from_two number l ls t ts now
 front_marked number l ls t ts now false is mark e =
     from_one number (l ∷ ls) now (formed (opening 1) now number l ls t ts (read_written (t ∷ ts)) is refl (λ w stands. first_not_front (line_at 0 w) stands) (history ls (suc number) now) e)
 
-front_by : (number : ℕ) (l : List ℕ) (ls : List (List ℕ)) (now : TextSoFar) (reading : Result (List Token) TokenFault)
+front_by : (number : ℕ) (l : List ℕ) (ls : List (List ℕ)) (now : Reader) (reading : Result (List Token) TokenFault)
     → line_reading l ≡ reading → (after_lines (Ok (opening 1)) (suc number) ls ≡ Ok now → FrontHistory (suc number) ls now)
     → after_lines (after_tokens (opening 1) number reading) (suc number) ls ≡ Ok now → FrontHistory number (l ∷ ls) now
 front_by number l ls now (Err f) is onward e = absurd (let z : ⊥ = cc in z)
@@ -200,7 +200,7 @@ front_by number l ls now (Ok (t ∷ ts)) is onward e =
     (ap (λ b. after_lines (or_bad_line number (cond b (Some (opening 2)) (line_taken (opening 1) number (read_written (t ∷ ts))))) (suc number) ls) (sym (and-true (is_version (t ∷ ts)))) ∙ e)
 
 -- a text that is read is a list of lines
-pub front_history : (lines : List (List ℕ)) (number : ℕ) (now : TextSoFar) → after_lines (Ok (opening 1)) number lines ≡ Ok now → FrontHistory number lines now
+pub front_history : (lines : List (List ℕ)) (number : ℕ) (now : Reader) → after_lines (Ok (opening 1)) number lines ≡ Ok now → FrontHistory number lines now
 unfolding after_line
 front_history [] number now e = record { version = 1; known = inl refl; first = 0; ws = []; good = tt; taken = cc; tokens = refl }
 front_history (l ∷ ls) number now e = front_by number l ls now (line_reading l) refl (front_history ls (suc number) now) e

@@ -4,14 +4,14 @@ use Rattle.std.specs.List.{take_while}
 use Rattle.std.proofs.lemmas.List.{drop_all}
 use Rattle.wdf_tokens.specs.Tokens.{lines_of, is_inside}
 use Rattle.wdf_tokens.proofs.LineReading.{slice_after}
-use Rattle.wdf_parse.specs.SoFar.{TextSoFar}
+use Rattle.wdf_parse.specs.declared.reader.Reader.{Reader}
 use Rattle.wdf_parse.specs.declared.refusal.ParseRefusal.{ParseRefusal}
 use Rattle.wdf_parse.specs.declared.refusal.ParseRefusal.TheVariants as refusal
 use Rattle.wdf_parse.specs.Texts.{after_line, after_lines, IsRefusalOf}
 use Rattle.wdf_parse.proofs.TextLines.{lines_from, cut_line}
 
 -- all lines are those that are taken and those from this place on
-pub record TakenUpTo (first : TextSoFar) (text : List ℕ) (at number : ℕ) (now : TextSoFar) : Type 0 where
+pub record TakenUpTo (first : Reader) (text : List ℕ) (at number : ℕ) (now : Reader) : Type 0 where
   pub splits : after_lines (Ok first) 1 (lines_of text) ≡ after_lines (Ok now) number (lines_of (drop at text))
   pub numbers : length (lines_of text) + 1 ≡ number + length (lines_of (drop at text))
   pub within : number ≤ at + 1
@@ -30,7 +30,7 @@ lines_there text at len inside is =
     lines_from text at inside ∙ ap (λ n. take_while is_inside (drop at text) ∷ lines_of (drop (at + (n + 1)) text)) (sym e)
 
 -- one line more is taken
-pub taken_next : (first : TextSoFar) (text : List ℕ) (at number len : ℕ) (line : List ℕ) (now next : TextSoFar)
+pub taken_next : (first : Reader) (text : List ℕ) (at number len : ℕ) (line : List ℕ) (now next : Reader)
     → TakenUpTo first text at number now → at < length text
     → len ≡ length (take_while is_inside (take (length text - at) (drop at text)))
     → line ≡ take len (take (length text - at) (drop at text))
@@ -56,12 +56,12 @@ taken_next first text at number len line now next before inside is_len is_line s
       lines = omega (arith, before.lines, lines);
     }
 
-refusal_passes : (r : Result TextSoFar ParseRefusal) (e : ParseRefusal) (number : ℕ) (lines : List (List ℕ)) → IsRefusalOf r e → IsRefusalOf (after_lines r number lines) e
+refusal_passes : (r : Result Reader ParseRefusal) (e : ParseRefusal) (number : ℕ) (lines : List (List ℕ)) → IsRefusalOf r e → IsRefusalOf (after_lines r number lines) e
 refusal_passes r refusal.Memory number lines h = tt
 refusal_passes r _ number lines h = ap (λ x. after_lines x number lines) h
 
 -- a line is refused
-pub taken_refused : (first : TextSoFar) (text : List ℕ) (at number len : ℕ) (line : List ℕ) (now : TextSoFar) (e : ParseRefusal)
+pub taken_refused : (first : Reader) (text : List ℕ) (at number len : ℕ) (line : List ℕ) (now : Reader) (e : ParseRefusal)
     → TakenUpTo first text at number now → at < length text
     → len ≡ length (take_while is_inside (take (length text - at) (drop at text)))
     → line ≡ take len (take (length text - at) (drop at text))
@@ -76,10 +76,10 @@ taken_refused first text at number len line now e before inside is_len is_line g
     rw steps (refusal_passes (after_line now number line) e (suc number) behind gives)
 
 -- at the end all is taken
-pub taken_all : (first : TextSoFar) (text : List ℕ) (at number : ℕ) (now : TextSoFar) → TakenUpTo first text at number now → length text ≤ at → after_lines (Ok first) 1 (lines_of text) ≡ Ok now
+pub taken_all : (first : Reader) (text : List ℕ) (at number : ℕ) (now : Reader) → TakenUpTo first text at number now → length text ≤ at → after_lines (Ok first) 1 (lines_of text) ≡ Ok now
 taken_all first text at number now before outside = before.splits ∙ ap (λ bytes. after_lines (Ok now) number (lines_of bytes)) (drop_all at text outside)
 
-pub number_all : (first : TextSoFar) (text : List ℕ) (at number : ℕ) (now : TextSoFar) → TakenUpTo first text at number now → length text ≤ at → number ≡ length (lines_of text) + 1
+pub number_all : (first : Reader) (text : List ℕ) (at number : ℕ) (now : Reader) → TakenUpTo first text at number now → length text ≤ at → number ≡ length (lines_of text) + 1
 number_all first text at number now before outside =
     let none : length (lines_of (drop at text)) ≡ 0 = ap (λ bytes. length (lines_of bytes)) (drop_all at text outside) in
     omega (arith, before.numbers)

@@ -2,7 +2,7 @@
 use Rattle.std.proofs.Common.{◌≡◌, ℕ, suc, ◌+◌, ◌-◌, ◌<◌, List, [], ◌∷◌, ◌++◌, map, length, take, get_or, slice_get, Some, refl, ap, ◌∙◌, sym, arith, add-one, length-append}
 use Rattle.std.proofs.lemmas.List.{map-append}
 use Rattle.std.proofs.Math.Seq.{take-suc}
-use Rattle.wdf_base.specs.Changed.{changed_at}
+use Rattle.wdf_scene.specs.Change.{changed_at}
 use Rattle.wdf_scene.specs.declared.line.NumberedLine.{NumberedLine}
 use Rattle.wdf_scene.specs.declared.line.SceneLine.{SceneLine}
 use Rattle.wdf_scene.specs.declared.line.SceneLine.TheVariants as line

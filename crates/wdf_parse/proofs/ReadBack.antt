@@ -23,7 +23,7 @@ use Rattle.wdf_tokens.proofs.Respelling.{line_is_read, first_line_text}
 use Rattle.wdf_scene_lines.specs.Building.{next_node}
 use Rattle.wdf_scene_lines.specs.Reading.{read_written}
 use Rattle.wdf_scene_lines.specs.Spelling.{written_tokens}
-use Rattle.wdf_parse.specs.SoFar.{TextSoFar}
+use Rattle.wdf_parse.specs.declared.reader.Reader.{Reader}
 use Rattle.wdf_parse.specs.declared.refusal.ParseRefusal.TheVariants as refusal
 use Rattle.wdf_parse.specs.Canonical.{written_text, canonical_text}
 use Rattle.wdf_parse.specs.Printing.{version_text, printed}
@@ -37,7 +37,7 @@ use Rattle.wdf_parse.proofs.NotVersion.{read_not_version}
 use Rattle.wdf_parse.proofs.PrintedLines.{lines_spelled}
 
 -- two readers that differ in line numbers alone
-record Same (r s : TextSoFar) : Type 0 where
+record Same (r s : Reader) : Type 0 where
   version : r.builder.version ≡ s.builder.version
   exprs : r.builder.exprs ≡ s.builder.exprs
   lines : map without_number r.builder.lines ≡ map without_number s.builder.lines
@@ -52,7 +52,7 @@ openers_same : (form : SceneLine) (n m : ℕ) (xs ys : List ℕ) → length xs �
 openers_same line.End n m xs ys h = omega (arith, length-drop 1 xs, length-drop 1 ys, h)
 openers_same form n m xs ys h = opened_same (opened form) n m xs ys h
 
-same_step : (r s : TextSoFar) (n m : ℕ) (w : Written) → Same r s → Same (with_written r n w) (with_written s m w)
+same_step : (r s : Reader) (n m : ℕ) (w : Written) → Same r s → Same (with_written r n w) (with_written s m w)
 same_step r s n m w h =
     let base : next_node r.builder ≡ next_node s.builder = ap (λ (xs : List SceneExpr). length xs) h.exprs in
     let form : line_at (next_node r.builder) w ≡ line_at (next_node s.builder) w = ap (λ k. line_at k w) base in
@@ -73,17 +73,17 @@ abbrev spelled_bytes : WrittenLine → List ℕ
 spelled_bytes w = line_bytes (written_tokens w.written)
 
 -- the spelled lines are taken as the lines were
-record Replayed (s : TextSoFar) (number : ℕ) (ws : List WrittenLine) (now : TextSoFar) : Type 0 where
-  last : TextSoFar
+record Replayed (s : Reader) (number : ℕ) (ws : List WrittenLine) (now : Reader) : Type 0 where
+  last : Reader
   gives : after_lines (Ok s) number (map spelled_bytes ws) ≡ Ok last
   same : Same now last
 
-filled_after : (s : TextSoFar) (number : ℕ) (ts : List Token) (w : Written) → read_written ts ≡ Some w → after_tokens s number (Ok ts) ≡ or_bad_line number (tokens_taken s number ts)
+filled_after : (s : Reader) (number : ℕ) (ts : List Token) (w : Written) → read_written ts ≡ Some w → after_tokens s number (Ok ts) ≡ or_bad_line number (tokens_taken s number ts)
 unfolding read_written
 filled_after s number [] w e = absurd (let z : ⊥ = cc in z)
 filled_after s number (t ∷ ts) w e = refl
 
-line_replayed : (s : TextSoFar) (number : ℕ) (w : Written) → Good w → may_stand s.place.position (line_at (next_node s.builder) w) ≡ true → after_line s number (line_bytes (written_tokens w)) ≡ Ok (with_written s number w)
+line_replayed : (s : Reader) (number : ℕ) (w : Written) → Good w → may_stand s.place.position (line_at (next_node s.builder) w) ≡ true → after_line s number (line_bytes (written_tokens w)) ≡ Ok (with_written s number w)
 unfolding after_line
 line_replayed s number w good stands =
     let ts = written_tokens w in
@@ -93,8 +93,8 @@ line_replayed s number w good stands =
     ∙ ap (λ o. or_bad_line number (line_taken s number o)) good.read
     ∙ ap (λ b. or_bad_line number (cond b (Some (with_written s number w)) None)) stands
 
-replay_by : (ws : List WrittenLine) (r now s : TextSoFar) (number : ℕ) (w : WrittenLine) (b : Bool)
-    → ((x y : TextSoFar) → AllGood ws → Same x y → taken_by (Some x) ws ≡ Some now → Replayed y (suc number) ws now)
+replay_by : (ws : List WrittenLine) (r now s : Reader) (number : ℕ) (w : WrittenLine) (b : Bool)
+    → ((x y : Reader) → AllGood ws → Same x y → taken_by (Some x) ws ≡ Some now → Replayed y (suc number) ws now)
     → Good w.written → AllGood ws → Same r s
     → may_stand r.place.position (line_at (next_node r.builder) w.written) ≡ b
     → taken_by (cond b (Some (with_written r w.number w.written)) None) ws ≡ Some now
@@ -112,7 +112,7 @@ replay_by ws r now s number w true onward good goods same stands e =
       same = behind.same;
     }
 
-replay : (ws : List WrittenLine) (number : ℕ) (now r s : TextSoFar) → AllGood ws → Same r s → taken_by (Some r) ws ≡ Some now → Replayed s number ws now
+replay : (ws : List WrittenLine) (number : ℕ) (now r s : Reader) → AllGood ws → Same r s → taken_by (Some r) ws ≡ Some now → Replayed s number ws now
 replay [] number now r s goods same e = let is : r ≡ now = cc in record { last = s; gives = refl; same = subst (λ x. Same x s) is same }
 replay (w ∷ ws) number now r s goods same e =
     replay_by ws r now s number w (may_stand r.place.position (line_at (next_node r.builder) w.written)) (replay ws (suc number) now) goods.0 goods.1 same refl e
@@ -140,18 +140,18 @@ same_opening : (v : ℕ) → Same (opening v) (opening v)
 same_opening v = record { version = refl; exprs = refl; lines = refl; position = refl; openers = refl }
 
 -- what the canonical text gives
-record Again (v : ℕ) (ws : List WrittenLine) (now : TextSoFar) : Type 0 where
-  last : TextSoFar
+record Again (v : ℕ) (ws : List WrittenLine) (now : Reader) : Type 0 where
+  last : Reader
   gives : after_lines (Ok (opening 1)) 1 (lines_of (canonical_text v ws)) ≡ Ok last
   same : Same now last
 
-again_one : (ws : List WrittenLine) (now : TextSoFar) → AllGood ws → taken_by (Some (opening 1)) ws ≡ Some now → Again 1 ws now
+again_one : (ws : List WrittenLine) (now : Reader) → AllGood ws → taken_by (Some (opening 1)) ws ≡ Some now → Again 1 ws now
 unfolding canonical_text
 again_one ws now goods e =
     let r = replay ws 1 now (opening 1) (opening 1) goods (same_opening 1) e in
     record { last = r.last; gives = ap (after_lines (Ok (opening 1)) 1) (canonical_lines ws goods) ∙ r.gives; same = r.same }
 
-again_two : (ws : List WrittenLine) (now : TextSoFar) → AllGood ws → taken_by (Some (opening 2)) ws ≡ Some now → Again 2 ws now
+again_two : (ws : List WrittenLine) (now : Reader) → AllGood ws → taken_by (Some (opening 2)) ws ≡ Some now → Again 2 ws now
 unfolding canonical_text
 again_two ws now goods e =
     let r = replay ws 2 now (opening 2) (opening 2) goods (same_opening 2) e in
@@ -165,7 +165,7 @@ again_two ws now goods e =
       same = r.same;
     }
 
-again : (v : ℕ) (ws : List WrittenLine) (now : TextSoFar) → ((v ≡ 1) ⊎ (v ≡ 2)) → AllGood ws → taken_by (Some (opening v)) ws ≡ Some now → Again v ws now
+again : (v : ℕ) (ws : List WrittenLine) (now : Reader) → ((v ≡ 1) ⊎ (v ≡ 2)) → AllGood ws → taken_by (Some (opening v)) ws ≡ Some now → Again v ws now
 again v ws now (inl is) goods e = subst (λ n. Again n ws now) (sym is) (again_one ws now goods (ap (λ n. taken_by (Some (opening n)) ws) (sym is) ∙ e))
 again v ws now (inr is) goods e = subst (λ n. Again n ws now) (sym is) (again_two ws now goods (ap (λ n. taken_by (Some (opening n)) ws) (sym is) ∙ e))
 
@@ -178,13 +178,13 @@ no_openers : (ns : List ℕ) → 0 ≡ length ns → first_number ns ≡ None
 no_openers [] h = refl
 no_openers (n ∷ ns) h = absurd (omega arith)
 
-same_scene : (r s : TextSoFar) → Same r s → without_numbers s.builder ≡ without_numbers r.builder
+same_scene : (r s : Reader) → Same r s → without_numbers s.builder ≡ without_numbers r.builder
 same_scene r s h =
     ap (λ v. record { version = v; lines = map without_number s.builder.lines; exprs = s.builder.exprs }) (sym h.version)
     ∙ ap (λ (ls : List NumberedLine). record { version = r.builder.version; lines = ls; exprs = s.builder.exprs }) (sym h.lines)
     ∙ ap (λ (es : List SceneExpr). record { version = r.builder.version; lines = map without_number r.builder.lines; exprs = es }) (sym h.exprs)
 
-ended : (text : List ℕ) (now last : TextSoFar) → after_lines (Ok (opening 1)) 1 (lines_of text) ≡ Ok last → Same now last → (now.place.position.headers == 3) ≡ true → now.place.openers ≡ [] → reading text ≡ Ok last.builder
+ended : (text : List ℕ) (now last : Reader) → after_lines (Ok (opening 1)) 1 (lines_of text) ≡ Ok last → Same now last → (now.place.position.headers == 3) ≡ true → now.place.openers ≡ [] → reading text ≡ Ok last.builder
 unfolding reading
 ended text now last gives same headers openers =
     let past = length (lines_of text) + 1 in
@@ -194,11 +194,11 @@ ended text now last gives same headers openers =
     ∙ ap (λ b. cond b (closed (first_number last.place.openers) last.builder) (Err (refusal.BadLine past))) there
     ∙ ap (λ o. closed o last.builder) none_left
 
-same_itself : (r : TextSoFar) → Same r r
+same_itself : (r : Reader) → Same r r
 same_itself r = record { version = refl; exprs = refl; lines = refl; position = refl; openers = refl }
 
 -- a text whose lines are taken, and that may end there, has a scene
-pub reading_ends : (text : List ℕ) (now : TextSoFar) → after_lines (Ok (opening 1)) 1 (lines_of text) ≡ Ok now → (now.place.position.headers == 3) ≡ true → now.place.openers ≡ [] → reading text ≡ Ok now.builder
+pub reading_ends : (text : List ℕ) (now : Reader) → after_lines (Ok (opening 1)) 1 (lines_of text) ≡ Ok now → (now.place.position.headers == 3) ≡ true → now.place.openers ≡ [] → reading text ≡ Ok now.builder
 reading_ends text now gives headers openers = ended text now now gives (same_itself now) headers openers
 
 pub read_back : (text : List ℕ) (s : Scene) → reading text ≡ Ok s → IsReadBack s

@@ -4,5 +4,4 @@ pub mod Picking
 pub mod Printing
 pub mod Standing
 pub mod StandsFor
-pub mod SoFar
 pub mod Texts

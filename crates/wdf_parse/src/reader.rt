@@ -8,7 +8,6 @@ ghost use Rattle.wdf_parse.specs.Texts as texts;
 use crate::place::Place;
 use crate::refusal::ParseRefusal;
 use std::alloc::Global;
-use std::marker::Model;
 use wdf_base::Memory;
 use wdf_scene::{Scene, SceneBuilder, SceneLine};
 use wdf_scene_lines::{Form, read_line};
@@ -19,14 +18,6 @@ use wdf_tokens::{Keyword, LexError, Token, TokenFault, keyword_named, read_token
 pub struct Reader {
     builder: SceneBuilder,
     place: Place,
-}
-
-impl Model for Reader {
-    ghost use Rattle.wdf_parse.specs.SoFar.{TextSoFar};
-
-    ghost Value = { TextSoFar };
-
-    ghost view = { λ r. record { builder = r.builder; place = r.place } };
 }
 
 fn is_version_word(word: Option<Keyword>, number: u64) -> bool

@@ -16,7 +16,7 @@ impl<A: Agent> Parts<A> {
     fn front(&self, q: ObjectId) -> Option<ObjectId>
         ensures { option_map (λ r. r.0) result ≡ queues.front self.now.queues q.0 }
     {
-        self.queues.head(q)
+        self.queues.front(q)
     }
 
     /// A control call of a queue.
@@ -38,26 +38,26 @@ impl<A: Agent> Parts<A> {
         }
     }
 
-    /// What returns from a queue is to be completed with CANCELLED.
-    fn close_returning_from(&mut self, q: ObjectId)
+    /// What returns to a queue is to be completed with CANCELLED.
+    fn close_returning_to(&mut self, q: ObjectId)
         ensures { self.new ≡ deeds.close_returning self.old q.0 }
     {
         self.requests.close_returning(q);
     }
 
-    /// A device's queues lose power: what returns from a power-managed one is to be completed with
+    /// A device's queues lose power: what returns to a power-managed one is to be completed with
     /// CANCELLED.
     pub(crate) fn close_returning(&mut self, plan: &IndexedPlan, device: ObjectId)
         ensures { self.new ≡ fold deeds.close_returning self.old (plans.managed_queues plan.now device.0) }
     {
         for q in plan.queues_of(device) {
             if plan.is_managed(q) {
-                self.close_returning_from(q);
+                self.close_returning_to(q);
             }
         }
     }
 
-    /// What waits in a queue or returns from it is to be completed with CANCELLED.
+    /// What waits in a queue or returns to it is to be completed with CANCELLED.
     fn close_queue(&mut self, q: ObjectId)
         requires { q.0 < length self.old.queues.dispatch }
         ensures done { self.new ≡ deeds.close_queue self.old q.0 }
@@ -67,7 +67,7 @@ impl<A: Agent> Parts<A> {
         self.requests.close(q);
     }
 
-    /// What waits in the queues of a device or returns from them is to be completed with CANCELLED.
+    /// What waits in the queues of a device or returns to them is to be completed with CANCELLED.
     pub(crate) fn close_queues(&mut self, plan: &IndexedPlan, device: ObjectId)
         requires { length plan.now.declared < length self.old.queues.dispatch }
         ensures { self.new ≡ fold deeds.close_queue self.old (plans.queues_of plan.now device.0) }

@@ -264,8 +264,8 @@ impl<A: Agent> Parts<A> {
         ensures { result ≡ ready.is_open_work self.now o.0 }
     {
         self.dpcs.is_dpc_queued(o)
-            || self.work_items.queued(o)
-            || self.timers.due(o, self.clock)
+            || self.work_items.is_work_queued(o)
+            || self.timers.timer_due(o, self.clock)
     }
 
     /// How many agents there are.

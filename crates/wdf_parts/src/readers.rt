@@ -30,7 +30,7 @@ impl<A: Agent> Parts<A> {
     pub fn is_powered(&self, plan: &IndexedPlan, q: ObjectId) -> bool
         ensures { result ≡ state.is_powered plan.now self.now q.0 }
     {
-        !plan.is_managed(q) || self.power.up(plan.device_of_queue(q))
+        !plan.is_managed(q) || self.power.queues_up(plan.device_of_queue(q))
     }
 
     /// Whether a queue delivers, by its mode and by power. (KMDF)
@@ -42,8 +42,8 @@ impl<A: Agent> Parts<A> {
 
     /// Whether a received request that is cancelled in this queue goes back to the driver, by
     /// EvtIoCanceledOnQueue. (KMDF)
-    pub fn returns_from(&self, plan: &IndexedPlan, q: ObjectId) -> bool
-        ensures { result ≡ state.returns_from plan.now self.now q.0 }
+    pub fn returns_to(&self, plan: &IndexedPlan, q: ObjectId) -> bool
+        ensures { result ≡ state.returns_to plan.now self.now q.0 }
     {
         plan.declares(Callback::EvtIoCanceledOnQueue, q)
             && !self.control.is_closed(plan.device_of_queue(q))
@@ -54,7 +54,7 @@ impl<A: Agent> Parts<A> {
     pub fn withdrawn_place(&self, plan: &IndexedPlan, q: ObjectId, r: ObjectId) -> Place
         ensures { result ≡ state.withdrawn_place plan.now self.now q.0 r.0 }
     {
-        if self.requests.info(r).received && self.returns_from(plan, q) {
+        if self.requests.info(r).received && self.returns_to(plan, q) {
             Place::Returning(q)
         } else {
             Place::Closing(Status::Cancelled)

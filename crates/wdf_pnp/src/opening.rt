@@ -8,17 +8,26 @@ ghost use Rattle.wdf_pnp.specs.Opening.{steps_at};
 use crate::interrupt::InterruptSteps;
 use crate::lists::DeviceSteps;
 use std::alloc::Global;
-use wdf_base::{CALLBACKS, Callback, Handle, Memory, ObjectId, Plan};
+use wdf_base::{Callback, Handle, Memory, ObjectId, Plan};
 use wdf_declared::{declares, interrupt_of};
 
 /// The callbacks that are steps of a device. (KMDF)
-fn device_callbacks() -> &'static [Callback]
-    ensures { result.now ≡ pnp.DEVICE_CALLBACKS }
-{
-    let first = Callback::EvtDevicePrepareHardware as usize;
-    let last = Callback::EvtDeviceSurpriseRemoval as usize;
-    &CALLBACKS[first..=last]
-}
+const DEVICE_CALLBACKS: [Callback; 14] = [
+    Callback::EvtDevicePrepareHardware,
+    Callback::EvtDeviceReleaseHardware,
+    Callback::EvtDeviceD0Entry,
+    Callback::EvtDeviceD0EntryPostInterruptsEnabled,
+    Callback::EvtDeviceD0ExitPreInterruptsDisabled,
+    Callback::EvtDeviceD0Exit,
+    Callback::EvtDeviceSelfManagedIoInit,
+    Callback::EvtDeviceSelfManagedIoRestart,
+    Callback::EvtDeviceSelfManagedIoSuspend,
+    Callback::EvtDeviceSelfManagedIoFlush,
+    Callback::EvtDeviceSelfManagedIoCleanup,
+    Callback::EvtDeviceQueryStop,
+    Callback::EvtDeviceQueryRemove,
+    Callback::EvtDeviceSurpriseRemoval,
+];
 
 /// Adds an item, if there is one, at the end of a vector.
 fn add<T: Drop>(all: &mut Vec<T>, item: Option<T>) -> Result<(), Memory>
@@ -91,7 +100,7 @@ pub(crate) fn device_steps(alloc: Global, plan: &Plan, d: ObjectId) -> Result<De
     ensures { IfOk result (λ steps. steps ≡ pnp.device_steps plan.now d.0) }
 {
     Ok(DeviceSteps {
-        callbacks: declared_among(alloc, plan, d, device_callbacks())?,
+        callbacks: declared_among(alloc, plan, d, &DEVICE_CALLBACKS)?,
         interrupts: device_interrupts(alloc, plan, d)?,
     })
 }

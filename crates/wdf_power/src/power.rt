@@ -108,14 +108,14 @@ impl Power {
     }
 
     /// Whether the queues of a device are up.
-    pub fn up(&self, d: ObjectId) -> bool
+    pub fn queues_up(&self, d: ObjectId) -> bool
         ensures { result ≡ power.queues_up self.now d.0 }
     {
         self.device(d).up
     }
 
     /// Whether a device has its hardware.
-    pub fn hardware(&self, d: ObjectId) -> bool
+    pub fn has_hardware(&self, d: ObjectId) -> bool
         ensures { result ≡ power.has_hardware self.now d.0 }
     {
         self.device(d).hardware

@@ -72,7 +72,7 @@ impl Queues {
     }
 
     /// The request at the front of a queue, `None` exactly where none waits there.
-    pub fn head(&self, q: ObjectId) -> Option<ObjectId>
+    pub fn front(&self, q: ObjectId) -> Option<ObjectId>
         ensures { option_map (λ r. r.0) result ≡ queues.front self.now q.0 }
     {
         object_at(self.waiting.front(q.0))
@@ -129,7 +129,7 @@ impl Queues {
     }
 
     /// How many requests from a queue the driver holds.
-    pub fn held(&self, q: ObjectId) -> u32
+    pub fn held_count(&self, q: ObjectId) -> u32
         ensures { result ≡ queues.held_count self.now q.0 }
     {
         entry_at(&self.held, 0, q.0)
@@ -137,11 +137,11 @@ impl Queues {
 
     /// Whether a queue presents one more request. (KMDF: a sequential queue one at a time, a
     /// parallel one up to its number, a manual one none of itself)
-    pub fn free(&self, q: ObjectId) -> bool
+    pub fn is_free(&self, q: ObjectId) -> bool
         ensures { result ≡ queues.is_free self.now q.0 }
     {
         let dispatch = entry_at(&self.dispatch, DispatchKind::Manual, q.0);
-        is_free_by(dispatch, self.held(q))
+        is_free_by(dispatch, self.held_count(q))
     }
 
     /// The first queue from an id on, below an end, that presents one request more now; `None` where there is none.
@@ -182,7 +182,7 @@ impl Queues {
         requires apart { is_waiting self.old r.0 ≡ false }
         ensures { self.new ≡ queues.enter self.old q.0 r.0 }
     {
-        let is_free = self.free(q);
+        let is_free = self.is_free(q);
         self.rising[q.0 as usize] = self.rises_with_last(q, r);
         self.waiting.push_back(q.0, r.0);
         self.presentable.put(q.0, is_free);
@@ -196,7 +196,7 @@ impl Queues {
         requires apart { is_waiting self.old r.0 ≡ false }
         ensures { self.new ≡ queues.requeue self.old q.0 r.0 }
     {
-        let is_free = self.free(q);
+        let is_free = self.is_free(q);
         self.rising[q.0 as usize] = self.rises_with_first(q, r);
         self.waiting.push_front(q.0, r.0);
         self.presentable.put(q.0, is_free);
@@ -211,7 +211,7 @@ impl Queues {
         ensures done { self.new ≡ (if is_some result then queues.take self.old q.0 else self.old) }
         ensures many { held_in self.new ≤ held_in self.old + 1 }
     {
-        let front = self.head(q)?;
+        let front = self.front(q)?;
         self.drop_front(q);
         self.hold(q);
         Some(front)
@@ -224,7 +224,7 @@ impl Queues {
         ensures rest { self.new ≡ queues.with_waiting self.old q.0 (drop 1) }
         ensures size { length self.new.waiting ≡ length self.old.waiting }
     {
-        let is_free = self.free(q);
+        let is_free = self.is_free(q);
         let _front = self.waiting.pop_front(q.0);
         let is_empty = self.waiting.is_empty(q.0);
         note(&mut self.presentable, q.0, is_empty, is_free);
@@ -237,7 +237,7 @@ impl Queues {
         ensures done { self.new ≡ queues.hold self.old q.0 }
         ensures many { held_in self.new ≡ held_in self.old + 1 }
     {
-        let held = self.held(q) + 1;
+        let held = self.held_count(q) + 1;
         self.write_held(q, held);
     }
 
@@ -247,7 +247,7 @@ impl Queues {
         ensures done { self.new ≡ queues.let_go self.old q.0 }
         ensures many { held_in self.new ≤ held_in self.old }
     {
-        let held = self.held(q).saturating_sub(1);
+        let held = self.held_count(q).saturating_sub(1);
         self.write_held(q, held);
     }
 
@@ -274,7 +274,7 @@ impl Queues {
         let Some(q) = self.waiting.owner(r.0) else {
             return false
         };
-        let is_free = self.free(ObjectId(q));
+        let is_free = self.is_free(ObjectId(q));
         let _list = self.waiting.unlink(r.0);
         let is_empty = self.waiting.is_empty(q);
         note(&mut self.presentable, q, is_empty, is_free);

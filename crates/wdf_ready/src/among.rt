@@ -7,7 +7,7 @@ ghost use Rattle.law_machine_places.specs.Placed as placed;
 ghost use Rattle.law_machine_places.specs.Placed.{IsAmong};
 ghost use Rattle.wdf_model.specs.rules.Ready.{allowed};
 
-use wdf_base::{Agent, Callback, Cpu, Event, Handle, ObjectId, Rank, Step, same_callback};
+use wdf_base::{Agent, Callback, Event, Handle, ObjectId, Rank, Step, same_callback};
 use wdf_offers::{declared_end, places_for, places_of_rank};
 use wdf_parts::Parts;
 use wdf_plan_index::IndexedPlan;
@@ -137,16 +137,6 @@ fn starts_somewhere<A: Agent>(
     }
 }
 
-/// Whether the processor of an event is there.
-fn has_cpu(plan: &IndexedPlan, cpu: Option<Cpu>) -> bool
-    ensures { result ≡ placed.has_cpu plan.now cpu }
-{
-    match cpu {
-        Some(cpu) => is_cpu(plan, cpu),
-        None => false,
-    }
-}
-
 /// Whether an event that may come has a place among the candidates.
 fn has_place<A: Agent>(plan: &IndexedPlan, parts: &Parts<A>, event: &Event) -> bool
     requires agents { length parts.now.agents ≤ 2 ^ 16 }
@@ -159,12 +149,22 @@ fn has_place<A: Agent>(plan: &IndexedPlan, parts: &Parts<A>, event: &Event) -> b
             request,
             ..
         } => starts_somewhere(plan, parts, *callback, *object, *request),
+        Event::Local { cpu, .. }
+        | Event::Log { cpu, .. }
+        | Event::Spend { cpu, .. }
+        | Event::Register { cpu, .. }
+        | Event::Did { cpu, .. }
+        | Event::Waiting { cpu, .. }
+        | Event::Woke { cpu, .. }
+        | Event::Park { cpu, .. }
+        | Event::Unpark { cpu, .. }
+        | Event::End { cpu, .. }
+        | Event::Fault { cpu, .. } => is_cpu(plan, *cpu),
         Event::Stage { device, .. } => is_declared_id(plan, device.id),
         Event::Complete { request, .. } => request.id.0 < parts.requests().len(),
         Event::Cleanup { object } | Event::Destroy { object } => object.id.0 < parts.tree().len(),
         Event::Posted { agent, .. } => (*agent as usize) < parts.agent_len(),
         Event::Tick { .. } => false,
-        of_a_frame => has_cpu(plan, of_a_frame.cpu()),
     }
 }
 

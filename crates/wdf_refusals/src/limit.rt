@@ -245,7 +245,7 @@ pub fn exceeded(names: &Names, variables: &Variables, placed: &Placed) -> Option
 }
 
 /// The word of each variant, in the order of the enum.
-const LIMIT_WORDS: [&str; 15] = [
+const WORDS: [&str; 15] = [
     "cpus",
     "limit",
     "objects",
@@ -268,6 +268,6 @@ impl Limit {
     pub fn word(self) -> &'static str
         ensures { result.now ≡ spec.limit_word self }
     {
-        LIMIT_WORDS[self as usize]
+        WORDS[self as usize]
     }
 }

@@ -10,7 +10,7 @@ use indexmap::IndexMap;
 use std::alloc::Global;
 use std::marker::Model;
 use wdf_base::{Memory, Name};
-use wdf_blocks::declaration::{Declaration, Wanted, suits, uses};
+use wdf_blocks::declaration::{Declaration, Wanted};
 
 /// A name, and what a place in the text needs it to stand for.
 #[derive(Clone, Copy, PartialEq, Eq, Hash)]
@@ -157,7 +157,7 @@ fn is_wanted_at(declarations: &[Declaration], at: usize, name: &Name, wanted: Wa
 // Keeps the place of a declaration for each use that it has.
 fn learn(known: &mut IndexMap<Use, u32>, declaration: &Declaration, at: u32) -> Result<(), Memory> {
     let name = declaration.name;
-    let [first, second, third] = uses(declaration);
+    let [first, second, third] = declaration.uses();
     known.insert(
         Use {
             name,
@@ -204,7 +204,7 @@ fn note(first: &mut IndexMap<Name, u32>, name: Name, at: u32) -> Result<(), Memo
 pub fn is_wanted(declaration: &Declaration, name: &Name, wanted: Wanted) -> bool
     ensures { result ≡ spec.is_wanted name.now wanted declaration.now }
 {
-    declaration.name == *name && suits(declaration, wanted)
+    declaration.name == *name && declaration.suits(wanted)
 }
 
 fn rest_from(declarations: &[Declaration], from: usize) -> &[Declaration]

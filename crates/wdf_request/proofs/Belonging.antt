@@ -4,14 +4,14 @@ use Rattle.std.proofs.Math.Bool.{and-false, and-true}
 use Rattle.wdf_base.specs.declared.ids.ObjectId.{ObjectId}
 use Rattle.wdf_base.specs.declared.object.Place.{Place}
 use Rattle.wdf_base.specs.declared.object.Place.TheVariants as place
-use Rattle.wdf_base.specs.Places.{is_done, is_returning_from, is_sent_to}
+use Rattle.wdf_base.specs.Places.{is_done, is_returning_to, is_sent_to}
 use Rattle.wdf_model.specs.declared.entries.Request.{Request}
 use Rattle.wdf_model.specs.parts.Requests.{has_arrived}
 use Rattle.wdf_model.specs.rules.Starts.{is_unfinished_at}
 use Rattle.wdf_maps.specs.Counts.{is_at}
 use Rattle.wdf_request.specs.Keys.{returning_queue, sent_target, unfinished_device}
 
-pub is_at_queue : (q : ℕ) (p : Place) → is_at q (returning_queue p) ≡ is_returning_from q p
+pub is_at_queue : (q : ℕ) (p : Place) → is_at q (returning_queue p) ≡ is_returning_to q p
 is_at_queue q (place.Queued o) = refl
 is_at_queue q _ = refl
 

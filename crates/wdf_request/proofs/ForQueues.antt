@@ -2,7 +2,7 @@
 use Rattle.std.proofs.Common.{ℕ, suc, ◌≡◌, ◌+◌, ◌<◌, nat_lt, Bool, List, [], ◌∷◌, Option, None, MatchOption, count_by, filter, is_some, length, refl, ap, sym, ◌∙◌, add-zero, arith}
 use Rattle.std.specs.List.{range_with_len}
 use Rattle.std.proofs.lemmas.List.Sums.{length-filter}
-use Rattle.wdf_base.specs.Places.{is_returning_from}
+use Rattle.wdf_base.specs.Places.{is_returning_to}
 use Rattle.wdf_base.specs.declared.ids.ObjectId.{ObjectId}
 use Rattle.wdf_model.specs.Tables.{entry, flag}
 use Rattle.wdf_model.specs.declared.entries.Request.{Request}
@@ -15,7 +15,7 @@ use Rattle.wdf_sets.specs.Nexts.{IsNext, NoneFrom}
 use Rattle.wdf_sets.proofs.Nexts.{found_also}
 use Rattle.wdf_tally.specs.Counted.{is_counted}
 use Rattle.wdf_request.specs.Closing.{IsSetOf}
-use Rattle.wdf_request.specs.ForQueues.{due_from, has_due, has_returning, returning_requests, returning_from}
+use Rattle.wdf_request.specs.ForQueues.{due_from, has_due, has_returning, returning_requests, returning_to}
 use Rattle.wdf_request.specs.Keys.{due_queue, returning_queue}
 use Rattle.wdf_request.proofs.Belonging.{is_at_queue}
 use Rattle.wdf_request.proofs.Members.{members_are}
@@ -48,13 +48,13 @@ count_alike p q same (x ∷ xs) =
     let rest : count_by p xs ≡ count_by q xs = count_alike p q same xs in
     omega arith
 
--- as many return from a queue
-pub returning_found : (R : Requests) (q : ℕ) → count_by (λ (r : Request). is_at q (returning_queue r.place)) R.all ≡ length (returning_from R q)
+-- as many return to a queue
+pub returning_found : (R : Requests) (q : ℕ) → count_by (λ (r : Request). is_at q (returning_queue r.place)) R.all ≡ length (returning_to R q)
 returning_found R q =
-    count_alike (λ (r : Request). is_at q (returning_queue r.place)) (λ r. is_returning_from q r.place) (λ r. is_at_queue q r.place) R.all
-    ∙ ids_as_many (λ r. is_returning_from q r.place) R
+    count_alike (λ (r : Request). is_at q (returning_queue r.place)) (λ r. is_returning_to q r.place) (λ r. is_at_queue q r.place) R.all
+    ∙ ids_as_many (λ r. is_returning_to q r.place) R
 
-pub returning_counted : (R : Requests) (counts : List ℕ) (q : ℕ) → AreCounted (λ (r : Request). returning_queue r.place) R.all counts → q < OBJECTS → entry 0 counts q ≡ length (returning_from R q)
+pub returning_counted : (R : Requests) (counts : List ℕ) (q : ℕ) → AreCounted (λ (r : Request). returning_queue r.place) R.all counts → q < OBJECTS → entry 0 counts q ≡ length (returning_to R q)
 returning_counted R counts q counted within = counted.count q within ∙ returning_found R q
 
 -- for as many EvtRequestCancel is due

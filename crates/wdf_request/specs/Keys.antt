@@ -7,7 +7,7 @@ use Rattle.wdf_base.specs.Places.{is_done, is_due, is_owned, is_sent}
 use Rattle.wdf_model.specs.declared.entries.Request.{Request}
 use Rattle.wdf_model.specs.parts.Requests.{has_arrived}
 
--- the queue that a request is Returning from
+-- the queue that a request is Returning to
 abbrev pub returning_queue : Place → Option ObjectId
 returning_queue (place.Returning q) = Some q
 returning_queue _ = None

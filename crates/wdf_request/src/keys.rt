@@ -8,7 +8,7 @@ ghost use Rattle.wdf_request.specs.Keys as keys;
 use wdf_base::{ObjectId, Place};
 use wdf_model::Request;
 
-/// The queue that a request is Returning from.
+/// The queue that a request is Returning to.
 pub(crate) fn returning_queue(place: Place) -> Option<ObjectId>
     ensures { result ≡ keys.returning_queue place }
 {
@@ -18,7 +18,7 @@ pub(crate) fn returning_queue(place: Place) -> Option<ObjectId>
     }
 }
 
-/// Whether a request is Returning from some queue.
+/// Whether a request is Returning to some queue.
 pub(crate) fn is_back(place: Place) -> bool
     ensures { result ≡ is_some (keys.returning_queue place) }
 {

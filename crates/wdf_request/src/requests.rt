@@ -1,6 +1,6 @@
 ghost use Rattle.std.specs.Prelude.{◌≡◌, ◌<◌, ◌≤◌, ◌==◌, [], IfOk, MatchOption, find, length, max, nat_le, option_map, slice_get, vec_capacity};
 ghost use Rattle.std.specs.List.{list_any};
-ghost use Rattle.wdf_base.specs.Places.{is_returning_from, is_sent_to};
+ghost use Rattle.wdf_base.specs.Places.{is_returning_to, is_sent_to};
 ghost use Rattle.wdf_model.specs.Tables.{put};
 ghost use Rattle.wdf_model.specs.parts.Requests as requests;
 ghost use Rattle.wdf_model.specs.parts.Requests.{no_request};
@@ -39,7 +39,7 @@ pub struct Requests {
     all: Vec<Request>,
     /// How many requests arrived.
     arrived: u32,
-    /// How many are Returning from each queue.
+    /// How many are Returning to each queue.
     returning: Tally,
     /// How many are Sent to each target.
     sent: Counts,
@@ -53,7 +53,7 @@ pub struct Requests {
     due: IdSet,
     /// Those that are Sent.
     sendings: IdSet,
-    /// Those that are Returning from some queue.
+    /// Those that are Returning to some queue.
     returns: IdSet,
     /// For how many that the driver has from each queue EvtRequestCancel is due.
     due_held: Tally,
@@ -218,9 +218,9 @@ impl Requests {
         None
     }
 
-    /// Whether some request is Returning from a queue.
-    pub fn returns_from(&self, q: ObjectId) -> bool
-        ensures { result ≡ list_any (λ r. is_returning_from q.0 r.place) self.now.all }
+    /// Whether some request is Returning to a queue.
+    pub fn returns_to(&self, q: ObjectId) -> bool
+        ensures { result ≡ list_any (λ r. is_returning_to q.0 r.place) self.now.all }
     {
         if q.0 < OBJECTS {
             self.returning.of(q) > 0

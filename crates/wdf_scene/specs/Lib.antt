@@ -1,4 +1,5 @@
 pub mod Blocks
+pub mod Change
 pub mod Naming
 pub mod Scene
 pub mod Words

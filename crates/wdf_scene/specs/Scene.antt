@@ -3,7 +3,7 @@ use Rattle.std.specs.Prelude.{◌≡◌, ℕ, ◌-◌, List, [], ◌∷◌, ◌+
 use Rattle.wdf_scene.specs.declared.line.NumberedLine.{NumberedLine}
 use Rattle.wdf_scene.specs.declared.line.SceneLine.TheVariants as line
 use Rattle.wdf_scene.specs.declared.scene.Scene.{Scene}
-use Rattle.wdf_base.specs.Changed.{changed_at}
+use Rattle.wdf_scene.specs.Change.{changed_at}
 
 -- the numbers of a line that is there
 abbrev pub line_picks : Option NumberedLine → List ℕ

@@ -1,6 +1,6 @@
 -- What is told, for words that are `run` and for others.
 use Rattle.std.proofs.Common.{ℕ, ◌≡◌, Bool, true, false, List, Option, Some, None, refl}
-use Rattle.wdf_model.specs.agents.AnyAgent.{agent_meaning}
+use Rattle.wdf_dev.specs.Agents.{agent_meaning}
 use Rattle.wdf_output.specs.Said.{Sinking}
 use Rattle.wdf_top.specs.Answers.{Freely, running}
 use Rattle.wdf_top.specs.declared.words.Form.{Form}

@@ -2,7 +2,7 @@
 ghost use Rattle.std.specs.Prelude.{◌≡◌, ◌≢◌, IfOk, OnErr};
 ghost use Rattle.wdf_base.specs.Resolved.{IsResolved};
 ghost use Rattle.wdf_base.specs.declared.event.Ending.TheVariants as ending;
-ghost use Rattle.wdf_model.specs.agents.AnyAgent.{agent_meaning};
+ghost use Rattle.wdf_dev.specs.Agents.{agent_meaning};
 ghost use Rattle.wdf_io.specs.Outside.{EndsRefused};
 ghost use Rattle.wdf_live.specs.Watched.{HasWatched};
 ghost use Rattle.wdf_model.specs.rules.Ready.{ending_of, IsRunOf};

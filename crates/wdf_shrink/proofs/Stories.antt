@@ -9,7 +9,7 @@ use Rattle.wdf_base.specs.declared.memory.Memory.{Memory}
 use Rattle.wdf_model.specs.Runs.{IsPickedFrom, Picked}
 use Rattle.wdf_model.specs.rules.Ready.{IsPickedRun, ready}
 use Rattle.wdf_model.proofs.Runs.{picked_once}
-use Rattle.wdf_model.specs.agents.AnyAgent.{agent_meaning}
+use Rattle.wdf_dev.specs.Agents.{agent_meaning}
 use Rattle.wdf_run.specs.Seeds.{seed_words}
 use Rattle.wdf_plan.specs.Plans.{plan_of}
 use Rattle.wdf_tries.specs.declared.tried.Case.{Case}

@@ -2,7 +2,7 @@
 use Rattle.std.specs.Prelude.{ℕ, ◌≡◌, ◌<◌, ◌≤◌, ◌^◌, ◌&&◌, All, Bool, List, bytes_eq, length, nat_le}
 use Rattle.wdf_base.specs.declared.event.Event.{Event}
 use Rattle.wdf_model.specs.rules.Ready.{IsPickedRun}
-use Rattle.wdf_model.specs.agents.AnyAgent.{agent_meaning}
+use Rattle.wdf_dev.specs.Agents.{agent_meaning}
 use Rattle.wdf_run.specs.Seeds.{seed_words}
 use Rattle.wdf_plan.specs.Plans.{plan_of}
 use Rattle.wdf_tries.specs.declared.tried.Case.{Case}

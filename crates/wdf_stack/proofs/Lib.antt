@@ -1,4 +1,5 @@
 pub mod Finding
 pub mod Leading
+pub mod Owning
 pub mod Placing
 pub mod Walking

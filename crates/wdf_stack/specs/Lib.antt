@@ -1,3 +1,3 @@
-pub mod Roles
+pub mod Agents
 pub mod Spans
 pub mod Line

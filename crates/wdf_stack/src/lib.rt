@@ -6,10 +6,12 @@ mod agents;
 mod chains;
 mod connector;
 mod forwarded;
+mod laws;
 mod line;
 mod spans;
 mod stack_manager;
 
 pub use agents::{StackAgent, stack_agents};
 pub use connector::Connector;
+pub use laws::stack_agents_are_the_models;
 pub use stack_manager::StackManager;

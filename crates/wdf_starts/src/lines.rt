@@ -45,5 +45,5 @@ fn line_is_up<A: Agent>(plan: &IndexedPlan, parts: &Parts<A>, i: ObjectId) -> bo
 pub(crate) fn isr_due<A: Agent>(plan: &IndexedPlan, parts: &Parts<A>, i: ObjectId) -> bool
     ensures { result ≡ interrupts.isr_due parts.now.interrupts i.0 (starts.line_is_up plan.now A.meaning parts.now i.0) }
 {
-    parts.interrupts().enabled(i) && line_is_up(plan, parts, i)
+    parts.interrupts().is_enabled(i) && line_is_up(plan, parts, i)
 }

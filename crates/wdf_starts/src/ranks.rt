@@ -40,8 +40,8 @@ fn presents<A: Agent>(
 {
     !plan.is_manual_queue(q)
         && parts.queue_delivers(plan, q)
-        && parts.queues().free(q)
-        && is_id(parts.queues().head(q), r)
+        && parts.queues().is_free(q)
+        && is_id(parts.queues().front(q), r)
         && is_callback(plan.handler_for(q, parts.requests().info(r).form), callback)
 }
 
@@ -61,7 +61,7 @@ pub fn rank_ready_for<A: Agent>(
             parts.requests().place(r).is_sent_to(o) && parts.targets().routine_due(r).is_some()
         }
         Rank::Cancel => parts.requests().info(r).mark.is_due() && parts.is_held_from(o, r),
-        Rank::CanceledOnQueue => parts.requests().place(r).is_returning_from(o),
+        Rank::CanceledOnQueue => parts.requests().place(r).is_returning_to(o),
         Rank::Stop => stop_is_due(plan, parts, o, r),
         Rank::Resume => parts.power().resume_due(r) && parts.is_held_from(o, r),
         Rank::Handler => presents(plan, parts, callback, o, r),
@@ -82,15 +82,15 @@ pub fn rank_ready<A: Agent>(
 {
     match rank {
         Rank::Isr => isr_due(plan, parts, o),
-        Rank::Deferred => is_id(parts.dpcs().head(cpu), o),
-        Rank::Timed => parts.timers().due(o, parts.now()) && parts.cpus().nobody_on(o),
+        Rank::Deferred => is_id(parts.dpcs().dpc_head(cpu), o),
+        Rank::Timed => parts.timers().timer_due(o, parts.now()) && parts.cpus().nobody_on(o),
         Rank::QueueState => parts.control().notify_due(o) && parts.queue_delivers(plan, o),
         Rank::Sequence => step_ready(
             parts,
             parts.tree().device(o),
             step_of(plan, parts, callback, o),
         ),
-        Rank::Work => parts.work_items().queued(o) && parts.cpus().nobody_on(o),
+        Rank::Work => parts.work_items().is_work_queued(o) && parts.cpus().nobody_on(o),
         Rank::Cleanup => clean_ready(parts, o) && !parts.tree().started(o, callback),
         Rank::Destroy => destroy_ready(parts, o) && !parts.tree().started(o, callback),
         _ => false,

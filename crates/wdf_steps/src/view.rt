@@ -96,6 +96,6 @@ impl View for TopFrame<'_> {
 
     fn hardware(&self, register: u32) -> bool {
         self.power
-            .hardware(self.plan.device_of_register(register))
+            .has_hardware(self.plan.device_of_register(register))
     }
 }

@@ -5,7 +5,7 @@ use Rattle.wdf_base.specs.declared.event.Ending.{Ending}
 use Rattle.wdf_base.specs.declared.event.Ending.TheVariants as ending
 use Rattle.wdf_base.specs.declared.event.Fault.{Fault}
 use Rattle.wdf_model.specs.rules.Ready.{ending_of}
-use Rattle.wdf_model.specs.agents.AnyAgent.{agent_meaning}
+use Rattle.wdf_dev.specs.Agents.{agent_meaning}
 use Rattle.wdf_io.specs.Outside.{Gains, Rose}
 use Rattle.wdf_parse.specs.Printing.{printed}
 use Rattle.wdf_gen.specs.Generated.{generated}

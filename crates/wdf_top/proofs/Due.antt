@@ -6,7 +6,7 @@ use Rattle.wdf_base.specs.Meaning.{Meaning}
 use Rattle.wdf_base.specs.declared.plan.Plan.{Plan}
 use Rattle.wdf_base.specs.declared.event.Event.{Event}
 use Rattle.wdf_model.specs.rules.Ready.{IsPickedRun, ending_of}
-use Rattle.wdf_model.specs.agents.AnyAgent.{agent_meaning}
+use Rattle.wdf_dev.specs.Agents.{agent_meaning}
 use Rattle.wdf_parse.specs.declared.refusal.ParseRefusal.TheVariants as parse
 use Rattle.wdf_parse.specs.Canonical.{canonical_text}
 use Rattle.wdf_parse.specs.StandsFor.{StandsFor}

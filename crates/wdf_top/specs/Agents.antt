@@ -1,8 +1,11 @@
 -- Which agents a run has: what outside the framework acts on it. (own)
 use Rattle.wdf_base.specs.Meaning.{Meaning}
-use Rattle.wdf_model.specs.agents.AnyAgent.{AnyAgent, agent_meaning}
-use Rattle.wdf_model.specs.agents.IdleAgent.{IdleAgent, idle_meaning}
-use Rattle.wdf_model.specs.agents.StackAgent.{StackAgent, stack_meaning}
+use Rattle.wdf_dev.specs.Agents.{agent_meaning}
+use Rattle.wdf_dev.specs.declared.any.AnyAgent.{AnyAgent}
+use Rattle.wdf_idle.specs.Agents.{idle_meaning}
+use Rattle.wdf_idle.specs.declared.idle_agent.IdleAgent.{IdleAgent}
+use Rattle.wdf_stack.specs.Agents.{stack_meaning}
+use Rattle.wdf_stack.specs.declared.agents.StackAgent.{StackAgent}
 
 -- the agents that a run may have
 pub data RunAgents : Type 0 where
@@ -13,7 +16,7 @@ pub data RunAgents : Type 0 where
   -- the same, with the stack manager in that place, and a connector for each target that is connected to a device
   Stacked : RunAgents
 
--- what is kept of an agent
+-- their Rust type
 abbrev pub AgentOf : RunAgents → Type 0
 AgentOf Usual = AnyAgent
 AgentOf Idle = IdleAgent

@@ -7,7 +7,7 @@ use Rattle.wdf_base.specs.declared.event.Ending.{Ending}
 use Rattle.wdf_base.specs.declared.event.Ending.TheVariants as ending
 use Rattle.wdf_scene.specs.declared.scene.Scene.{Scene}
 use Rattle.wdf_model.specs.rules.Ready.{ending_of, IsPickedRun, IsRunOf}
-use Rattle.wdf_model.specs.agents.AnyAgent.{agent_meaning}
+use Rattle.wdf_dev.specs.Agents.{agent_meaning}
 use Rattle.wdf_lines.specs.Endings.{ending_text}
 use Rattle.wdf_run.specs.Seeds.{seed_words}
 use Rattle.wdf_parse.specs.declared.refusal.ParseRefusal.{ParseRefusal}

@@ -5,7 +5,7 @@ use Rattle.wdf_base.specs.declared.event.Event.{Event}
 use Rattle.wdf_base.specs.declared.event.Ending.{Ending}
 use Rattle.wdf_scene.specs.declared.scene.Scene.{Scene}
 use Rattle.wdf_model.specs.rules.Ready.{ending_of, IsPickedRun}
-use Rattle.wdf_model.specs.agents.AnyAgent.{agent_meaning}
+use Rattle.wdf_dev.specs.Agents.{agent_meaning}
 use Rattle.wdf_parse.specs.StandsFor.{StandsFor}
 use Rattle.wdf_parse.specs.Texts.{IsRefusalOf, reading}
 use Rattle.wdf_parse.specs.Laws.{IsNoScene}

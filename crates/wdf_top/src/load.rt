@@ -1,6 +1,6 @@
 //! The form `load N`: the summary of a generated scenario's run.
 ghost use Rattle.std.specs.Prelude.{◌≡◌, IfOk};
-ghost use Rattle.wdf_model.specs.agents.AnyAgent.{agent_meaning};
+ghost use Rattle.wdf_dev.specs.Agents.{agent_meaning};
 ghost use Rattle.wdf_gen.specs.Generated.{generated};
 ghost use Rattle.wdf_io.specs.Outside.{EndsRefused};
 ghost use Rattle.wdf_model.specs.rules.Ready.{IsPickedRun};

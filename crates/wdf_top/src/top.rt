@@ -39,7 +39,7 @@ const USAGE: &[u8] =
 /// of the run. `idle` and `stack` run as `order` does: `idle` with a policy that puts idle devices to sleep, `stack` with
 /// targets that are the queues of the device below. `lint` writes what a walk of each callback's statements finds, a line
 /// for each finding, or `clean`. What is no form gets the usage line. So do `run` and `watch`, which this call doesn't serve.
-/// Nothing else is written. The section Statuses of `docs/guide/TUTORIAL.md` says when each status comes.
+/// Nothing else is written. The section Statuses of `docs/SCENARIO.md` says when each status comes.
 pub fn top_plain<S: Source, K: Sink>(
     alloc: Global,
     words: &[String],

@@ -174,7 +174,7 @@ from_part bits p id a (suc n) e h =
     (from_part bits p id (a + 1) n e (omega arith))
 
 -- the members are the objects that pass
-pub members_pass : (test : Life → Bool) (ns : List Node) (bits : List Bool) → test life.Gone ≡ false → HoldsLives test ns bits
+members_pass : (test : Life → Bool) (ns : List Node) (bits : List Bool) → test life.Gone ≡ false → HoldsLives test ns bits
     → members bits ≡ filter (λ id. test (entry gone ns id).life) (ids_of ns)
 members_pass test ns bits none set =
     members_where bits (λ id. test (entry gone ns id).life) (length ns) set.same (λ id past. ap (λ (x : Node). test x.life) (entry_past gone ns id past) ∙ none)

@@ -1,20 +1,12 @@
 -- The objects whose deletion isn't finished, as sets of ids.
-use Rattle.std.specs.Prelude.{ℕ, ◌≡◌, ◌≤◌, Bool, List, filter, length}
+use Rattle.std.specs.Prelude.{ℕ, ◌≡◌, ◌≤◌, Bool, List, length}
 use Rattle.wdf_base.specs.declared.object.Life.{Life}
 use Rattle.wdf_base.specs.Lives.{is_asked, is_cleaned}
-use Rattle.wdf_model.specs.Tables.{entry, ids_of}
+use Rattle.wdf_model.specs.Tables.{entry}
 use Rattle.wdf_model.specs.declared.entries.Node.{Node}
 use Rattle.wdf_model.specs.declared.room.TheConstants.{OBJECTS}
-use Rattle.wdf_model.specs.parts.Tree.{Tree, gone, life_of}
+use Rattle.wdf_model.specs.parts.Tree.{gone}
 use Rattle.wdf_sets.specs.Members.{is_in}
-
--- the objects whose deletion was asked, and whose cleanup is still to come, by rising id
-abbrev pub asked_of : Tree → List ℕ
-asked_of T = filter (λ o. is_asked (life_of T o)) (ids_of T.nodes)
-
--- the objects that are cleaned up, and aren't destroyed yet, by rising id
-abbrev pub cleaned_of : Tree → List ℕ
-cleaned_of T = filter (λ o. is_cleaned (life_of T o)) (ids_of T.nodes)
 
 -- A set has a bit for each object, and its members are the objects in a life that passes a test.
 pub record HoldsLives (test : Life → Bool) (nodes : List Node) (bits : List Bool) : Type 0 where

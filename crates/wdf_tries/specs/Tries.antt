@@ -5,7 +5,7 @@ use Rattle.wdf_base.specs.declared.event.Event.{Event}
 use Rattle.wdf_base.specs.Meaning.{Meaning}
 use Rattle.wdf_model.specs.rules.Ready.{IsPickedRun, ending_of}
 use Rattle.wdf_model.specs.rules.Waits.{wait_list}
-use Rattle.wdf_model.specs.agents.AnyAgent.{agent_meaning}
+use Rattle.wdf_dev.specs.Agents.{agent_meaning}
 use Rattle.wdf_scene.specs.declared.scene.Scene.{Scene}
 use Rattle.wdf_plan.specs.Plans.{plan_of}
 use Rattle.wdf_run.specs.Seeds.{seed_words}

@@ -1,5 +1,5 @@
 ghost use Rattle.std.specs.Prelude.{◌≡◌, ◌<◌, ◌^◌, IfOk, OnOk};
-ghost use Rattle.wdf_model.specs.agents.AnyAgent.{agent_meaning};
+ghost use Rattle.wdf_dev.specs.Agents.{agent_meaning};
 ghost use Rattle.wdf_model.specs.rules.Ready.{IsPickedRun};
 ghost use Rattle.wdf_plan.specs.Plans.{plan_of};
 ghost use Rattle.wdf_scene.specs.Naming.{HasProperNames};

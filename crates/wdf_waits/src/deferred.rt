@@ -56,7 +56,7 @@ fn deferred_cause<A: Agent>(plan: &IndexedPlan, parts: &Parts<A>, o: ObjectId) -
 {
     if parts.dpcs().is_dpc_queued(o) {
         dpc_cause(plan, parts, o)
-    } else if parts.work_items().queued(o) {
+    } else if parts.work_items().is_work_queued(o) {
         work_cause(plan, parts, Callback::EvtWorkItem, PASSIVE_LEVEL, o)
     } else {
         work_cause(plan, parts, Callback::EvtTimerFunc, DISPATCH_LEVEL, o)

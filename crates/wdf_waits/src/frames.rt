@@ -1,7 +1,7 @@
 //! The lines of frames: what each waits for.
 ghost use Rattle.std.specs.Prelude.{◌≡◌, ◌∷◌, ◌++◌, []};
 ghost use Rattle.wdf_base.specs.declared.wait.Cause.TheVariants as cause;
-ghost use Rattle.wdf_base.specs.Places.{is_returning_from, is_sent_to};
+ghost use Rattle.wdf_base.specs.Places.{is_returning_to, is_sent_to};
 ghost use Rattle.wdf_model.specs.parts.Deferred.WorkItems.{is_work_queued};
 ghost use Rattle.wdf_model.specs.State as state;
 ghost use Rattle.wdf_model.specs.parts.Queues.{waiting_in};
@@ -11,8 +11,8 @@ ghost use Rattle.wdf_model.specs.rules.Waits as waits;
 use wdf_base::{Agent, Call, CallKind, Cause, FrameId, ObjectId, OpenThing, Pending, WaitLine};
 use wdf_calls::is_met;
 use wdf_causes::{
-    PASSIVE_LEVEL, by_frame, by_frame_on, by_lock, by_request, least_held_from,
-    least_returning_from, least_sent_to, least_waiting, no_cpu,
+    PASSIVE_LEVEL, by_frame, by_frame_on, by_lock, by_request, least_held_from, least_returning_to,
+    least_sent_to, least_waiting, no_cpu,
 };
 use wdf_maps::lesser_if;
 use wdf_model::object_in;
@@ -37,16 +37,16 @@ fn by_held_or_waiting<A: Agent>(plan: &IndexedPlan, parts: &Parts<A>, q: ObjectI
 }
 
 #[tactic(auto, using(wdf_maps::proofs::Leasts::least_append))]
-/// The least request that the driver holds from a queue, or that returns from it.
+/// The least request that the driver holds from a queue, or that returns to it.
 fn by_held_or_returning<A: Agent>(
     plan: &IndexedPlan,
     parts: &Parts<A>,
     q: ObjectId,
 ) -> Option<Cause>
-    ensures { result ≡ waits.by_request plan.now parts.now (state.held_from parts.now q.0 ++ waits.requests_where parts.now (is_returning_from q.0)) }
+    ensures { result ≡ waits.by_request plan.now parts.now (state.held_from parts.now q.0 ++ waits.requests_where parts.now (is_returning_to q.0)) }
 {
     let held = least_held_from(plan, parts, q);
-    let returning = least_returning_from(plan, parts, q);
+    let returning = least_returning_to(plan, parts, q);
     by_request(plan, parts, lesser_if(held, returning))
 }
 
@@ -64,7 +64,7 @@ fn flush_cause<A: Agent>(plan: &IndexedPlan, parts: &Parts<A>, o: ObjectId) -> O
     if let Some(frame) = by_frame_on(parts, o) {
         return Some(frame);
     }
-    if parts.work_items().queued(o) {
+    if parts.work_items().is_work_queued(o) {
         return Some(Cause::ByWork {
             work: parts.handle_in(plan, o),
         });

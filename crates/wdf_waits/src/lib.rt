@@ -11,7 +11,7 @@
 //!   `removed` alone is left after it. Else the next one.
 //! - **Which request does a line name, where several would do?** The one with the least id. `behind` chooses among
 //!   all that are before it in the queue. A call that waits chooses among those that it waits for. These are what is
-//!   held from the queue for a stop, with what waits there for a drain, or with what returns from it for a purge; and
+//!   held from the queue for a stop, with what waits there for a drain, or with what returns to it for a purge; and
 //!   what is at the target.
 //! - **Which child does a line name?** The least of the children that have to go first and, where the parent is going
 //!   too, of the younger siblings that aren't cleaned yet.

@@ -72,7 +72,7 @@ fn queued_cause<A: Agent>(
     if let Some(behind) = behind_cause(plan, parts, q, r) {
         return Some(behind);
     }
-    if !parts.queues().free(q) {
+    if !parts.queues().is_free(q) {
         return Some(Cause::Full);
     }
     returning_cause(plan, parts, q)

@@ -1,5 +1,5 @@
 -- The clause is the lemma, with the agents of a run.
-use Rattle.wdf_model.specs.agents.AnyAgent.{agent_meaning}
+use Rattle.wdf_dev.specs.Agents.{agent_meaning}
 use Rattle.law_hunt.proofs.OfKinds.{kind_is}
 use Rattle.law_hunt.proofs.kinds_have_the_status_of_the_run.Goals as goal
 

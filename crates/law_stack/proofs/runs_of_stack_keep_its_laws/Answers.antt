@@ -1,5 +1,5 @@
 -- The clauses are the lemmas on these agents, on what connectors post and on what the stack manager posts.
-use Rattle.wdf_model.specs.agents.StackAgent.{stack_meaning}
+use Rattle.wdf_stack.specs.Agents.{stack_meaning}
 use Rattle.law_stack.proofs.Requests.{requests_keep}
 use Rattle.law_stack.proofs.Served.{stack_agents_are, stack_runs_keep_laws}
 use Rattle.law_stack.proofs.runs_of_stack_keep_its_laws.Goals as goal

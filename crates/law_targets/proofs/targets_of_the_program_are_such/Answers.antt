@@ -1,8 +1,8 @@
 -- The agents are as the lemmas say; what they are done with is the lemma on runs.
 use Rattle.law_targets.proofs.Agents.{idle_target, stack_target, usual_target}
 use Rattle.law_targets.proofs.Runs.{its_target, may_be_done}
-use Rattle.wdf_model.specs.agents.AnyAgent.{agent_meaning}
-use Rattle.wdf_model.specs.agents.IdleAgent.{idle_meaning}
+use Rattle.wdf_dev.specs.Agents.{agent_meaning}
+use Rattle.wdf_idle.specs.Agents.{idle_meaning}
 use Rattle.law_targets.proofs.targets_of_the_program_are_such.Goals as goal
 
 pub returns-clause-usual : goal.returns-clause-usual

@@ -57,5 +57,5 @@ agent_value (Device d) what = device.device_value d what
 agent_value _ what = 0
 
 -- the agents of the program: what each is at the opening, how an event changes it, and what it posts and shows
-abbrev pub agent_meaning : Meaning AnyAgent
-agent_meaning = record { begin = agent_at; fold = agent_after; due = agent_due; next = agent_next; value = agent_value }
+abbrev pub agents : Meaning AnyAgent
+agents = record { begin = agent_at; fold = agent_after; due = agent_due; next = agent_next; value = agent_value }

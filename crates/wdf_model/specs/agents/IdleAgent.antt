@@ -37,5 +37,5 @@ idle_agent_value (Policy p) what = 0
 idle_agent_value (Usual a) what = agent_value a what
 
 -- the agents of the program where idle devices sleep
-abbrev pub idle_meaning : Meaning IdleAgent
-idle_meaning = record { begin = idle_agent_at; fold = idle_agent_after; due = idle_agent_due; next = idle_agent_next; value = idle_agent_value }
+abbrev pub idle_agents : Meaning IdleAgent
+idle_agents = record { begin = idle_agent_at; fold = idle_agent_after; due = idle_agent_due; next = idle_agent_next; value = idle_agent_value }

@@ -9,7 +9,7 @@ use Rattle.wdf_base.specs.declared.object.Mark.{Mark}
 use Rattle.wdf_base.specs.declared.object.Mark.TheVariants as marks
 use Rattle.wdf_base.specs.declared.object.RequestForm.TheVariants as form
 use Rattle.wdf_base.specs.declared.object.RequestInfo.{RequestInfo}
-use Rattle.wdf_base.specs.Places.{is_done, is_marked, is_owned, is_queued_in, is_returning_from}
+use Rattle.wdf_base.specs.Places.{is_done, is_marked, is_owned, is_queued_in, is_returning_to}
 use Rattle.wdf_model.specs.Tables.{entry, put, change_at, ids_of, flag}
 use Rattle.wdf_model.specs.declared.entries.Request.{Request}
 
@@ -183,11 +183,11 @@ closed_at here r = if here r.place then moved (place.Closing status.Cancelled) r
 
 -- each request that returns from queue q is to be completed by the framework with CANCELLED (own)
 abbrev pub close_returning : Requests → ℕ → Requests
-close_returning R q = record R { all = map (closed_at (is_returning_from q)) R.all }
+close_returning R q = record R { all = map (closed_at (is_returning_to q)) R.all }
 
 -- whether a request at this place waits in queue q or returns from it
 abbrev pub is_in : ℕ → Place → Bool
-is_in q p = is_queued_in q p || is_returning_from q p
+is_in q p = is_queued_in q p || is_returning_to q p
 
 -- each request that waits in queue q or returns from it is to be completed by the framework with CANCELLED (own)
 abbrev pub close : Requests → ℕ → Requests

@@ -16,7 +16,7 @@ use Rattle.wdf_base.specs.declared.call.Call.{Call}
 use Rattle.wdf_base.specs.declared.call.CallKind.TheVariants as call
 use Rattle.wdf_base.specs.declared.call.Callback.TheVariants as callback
 use Rattle.wdf_base.specs.Lives.{is_live}
-use Rattle.wdf_base.specs.Places.{is_returning_from}
+use Rattle.wdf_base.specs.Places.{is_returning_to}
 use Rattle.wdf_model.specs.declared.enums.Mode.TheVariants as mode
 use Rattle.wdf_model.specs.declared.entries.Request.{Request}
 use Rattle.wdf_model.specs.Tables.{flag}
@@ -32,7 +32,7 @@ use Rattle.wdf_model.specs.parts.Deferred.Dpcs.{is_dpc_queued}
 use Rattle.wdf_model.specs.parts.Deferred.WorkItems.{is_work_queued}
 use Rattle.wdf_model.specs.parts.Deferred.Timers.{is_timer_queued}
 use Rattle.wdf_model.specs.parts.Targets.{takes_more, is_undone}
-use Rattle.wdf_model.specs.State.{State, object_in, queue_delivers, nothing_at, handle_in, returns_from}
+use Rattle.wdf_model.specs.State.{State, object_in, queue_delivers, nothing_at, handle_in, returns_to}
 use Rattle.wdf_model.specs.Ids.{cpu_of, frame_id, irql_of, object_id}
 use Rattle.wdf_model.specs.declared.deed.Deed.{Deed}
 use Rattle.wdf_model.specs.declared.deed.Deed.TheVariants.{Create, MakeRequest, AskDeletion, Refer, Unrefer, WriteCell, Raise, Lower, TakeLock, ReleaseLock, Present, Requeue, Forward, GiveBack, MarkRequest, UnmarkRequest, SendRequest, CompleteRequest, SetMode, PurgeQueue, RegisterQueue, Acknowledge, EnqueueDpc, CancelDpc, EnqueueWork, StartTimer, StopTimer, StopTarget, StartTarget}
@@ -324,7 +324,7 @@ nothing_held S q = held_count S.queues q == 0
 
 -- no request waits for the EvtIoCanceledOnQueue of queue q
 abbrev pub nothing_returns : {A : Type 0} → State A → ℕ → Bool
-nothing_returns S q = not (list_any (λ (r : Request). is_returning_from q r.place) S.requests.all)
+nothing_returns S q = not (list_any (λ (r : Request). is_returning_to q r.place) S.requests.all)
 
 -- whether the wait of call c is over
 abbrev pub is_met : {A : Type 0} → State A → Call → Bool
@@ -353,10 +353,10 @@ is_met S c = elim c.kind as (λ _. Bool) [
   | _ ↦ true
 ]
 
--- whether a purge of queue q makes a request return from it: one waits there that the driver had before, and q would
+-- whether a purge of queue q makes a request return to it: one waits there that the driver had before, and q would
 -- give it back
 abbrev pub purge_returns : {A : Type 0} → Plan → State A → ℕ → Bool
-purge_returns plan S q = returns_from plan S q && list_any (λ r. (info_of S.requests r).received) (waiting_in S.queues q)
+purge_returns plan S q = returns_to plan S q && list_any (λ r. (info_of S.requests r).received) (waiting_in S.queues q)
 
 -- whether the wait of call c is over once its first part is done, said of the state before it
 abbrev pub is_met_then : {A : Type 0} → Plan → State A → Call → Bool

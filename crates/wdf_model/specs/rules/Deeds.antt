@@ -111,11 +111,11 @@ cancel_in plan S q r = record S { requests = requests.move_to (requests.cancel S
 abbrev pub withdraw : {A : Type 0} → Plan → ℕ → State A → ℕ → State A
 withdraw plan q S r = cancel_in plan (record S { queues = queues.take_cancelled S.queues r }) q r
 
--- what returns from queue q is to be completed with CANCELLED, without its EvtIoCanceledOnQueue (own)
+-- what returns to queue q is to be completed with CANCELLED, without its EvtIoCanceledOnQueue (own)
 abbrev pub close_returning : {A : Type 0} → State A → ℕ → State A
 close_returning S q = record S { requests = requests.close_returning S.requests q }
 
--- what waits in queue q or returns from it is to be completed with CANCELLED (own)
+-- what waits in queue q or returns to it is to be completed with CANCELLED (own)
 abbrev pub close_queue : {A : Type 0} → State A → ℕ → State A
 close_queue S q = record S { queues = queues.clear S.queues q; requests = requests.close S.requests q }
 
@@ -215,7 +215,7 @@ do_deed plan (SetMode q m) S = record S { control = control.set_mode S.control q
 do_deed plan (PurgeQueue q) S = fold (withdraw plan q.0) (record S { control = control.set_mode S.control q.0 mode.Purged }) (waiting_in S.queues q.0)
 -- own: in each power-managed queue of the device
 do_deed plan (CloseReturning d) S = fold close_returning S (managed_queues plan d.0)
--- own: the device's queues are Purged for good, and nothing waits in one or returns from one
+-- own: the device's queues are Purged for good, and nothing waits in one or returns to one
 do_deed plan (CloseDevice d) S = fold close_queue (record S { control = control.shut S.control d.0 }) (queues_of plan d.0)
 do_deed plan (RegisterQueue q on) S = record S { control = control.notify S.control q.0 on }
 do_deed plan (NotifyQueue q) S = record S { control = control.notified S.control q.0 }

@@ -23,7 +23,7 @@ use Rattle.wdf_base.specs.declared.frame.Frame.{Frame}
 use Rattle.wdf_base.specs.Callbacks.{row_of}
 use Rattle.wdf_base.specs.Same.{same_callback, same_kind, same_step, same_option}
 use Rattle.wdf_base.specs.Lives.{is_asked, is_cleaned, is_live}
-use Rattle.wdf_base.specs.Places.{is_done, is_due, is_returning_from, is_sent, is_sent_to}
+use Rattle.wdf_base.specs.Places.{is_done, is_due, is_returning_to, is_sent, is_sent_to}
 use Rattle.wdf_model.specs.declared.entries.Request.{Request}
 use Rattle.wdf_model.specs.Plans.{agent_of_device, callback_irql, handler_for, interrupt_of, interrupts_of, is_managed, is_manual_queue, is_target_of, managed_queues, period_of, target_of, declared_ids}
 use Rattle.wdf_model.specs.Tables.{same_id}
@@ -202,7 +202,7 @@ rank_ready_for plan S rank.Completion c o r = is_sent_to o (place_of S.requests 
 -- KMDF: the request's mark is due, on the queue that it came from
 rank_ready_for plan S rank.Cancel c o r = is_due (mark_of S.requests r) && is_held_from S o r
 -- KMDF: the request returns from the queue
-rank_ready_for plan S rank.CanceledOnQueue c o r = is_returning_from o (place_of S.requests r)
+rank_ready_for plan S rank.CanceledOnQueue c o r = is_returning_to o (place_of S.requests r)
 -- KMDF: the request is held while its queue loses power
 rank_ready_for plan S rank.Stop c o r = stop_is_due plan S o r
 -- KMDF: a resume is due for the held request

@@ -29,7 +29,7 @@ use Rattle.wdf_base.specs.declared.wait.Cause.TheVariants as cause
 use Rattle.wdf_base.specs.declared.wait.WaitLine.{WaitLine}
 use Rattle.wdf_base.specs.Same.{same_callback}
 use Rattle.wdf_base.specs.Lives.{is_asked, is_cleaned, is_past_cleanup}
-use Rattle.wdf_base.specs.Places.{is_returning_from, is_sent_to}
+use Rattle.wdf_base.specs.Places.{is_returning_to, is_sent_to}
 use Rattle.wdf_base.specs.Callbacks.{dpc_function}
 use Rattle.wdf_model.specs.Ids.{frame_id}
 use Rattle.wdf_model.specs.Tables.{contains, first_of_list, ids_of, least}
@@ -126,8 +126,8 @@ call_cause plan S c = elim c.kind as (λ _. Option Cause) [
   | call.WdfIoQueueStopSynchronously ↦ by_request plan S (held_from S (object_in c.a))
   -- the same, and what waits in the queue
   | call.WdfIoQueueDrainSynchronously ↦ by_request plan S (held_from S (object_in c.a) ++ waiting_in S.queues (object_in c.a))
-  -- what the driver holds from the queue, and what returns from it
-  | call.WdfIoQueuePurgeSynchronously ↦ by_request plan S (held_from S (object_in c.a) ++ requests_where S (is_returning_from (object_in c.a)))
+  -- what the driver holds from the queue, and what returns to it
+  | call.WdfIoQueuePurgeSynchronously ↦ by_request plan S (held_from S (object_in c.a) ++ requests_where S (is_returning_to (object_in c.a)))
   -- what is sent to the target
   | call.WdfIoTargetStop ↦ by_request plan S (requests_where S (is_sent_to (object_in c.a)))
   -- a frame that runs on it

@@ -11,13 +11,13 @@ use wdf_base::{ObjectId, Place, Status};
 /// Which requests of a queue are closed.
 #[derive(Clone, Copy)]
 enum ClosedPart {
-    /// Those that return from it.
+    /// Those that return to it.
     Returning(ObjectId),
     /// Those that wait in it too.
     Whole(ObjectId),
 }
 
-/// Whether a request at this place waits in a queue or returns from it.
+/// Whether a request at this place waits in a queue or returns to it.
 fn is_in(q: ObjectId, place: Place) -> bool
     ensures { result ≡ requests.is_in q.0 place }
 {
@@ -33,7 +33,7 @@ impl ClosedPart {
         ensures { result ≡ is_part self place }
     {
         match self {
-            ClosedPart::Returning(q) => place.is_returning_from(q),
+            ClosedPart::Returning(q) => place.is_returning_to(q),
             ClosedPart::Whole(q) => is_in(q, place),
         }
     }
@@ -63,19 +63,19 @@ impl Requests {
         }
     }
 
-    /// What returns from a queue is to be completed with CANCELLED. Where nothing does, no request is
+    /// What returns to a queue is to be completed with CANCELLED. Where nothing does, no request is
     /// looked at.
     #[tactic(auto, using(crate::proofs::Closing::none_closed))]
     pub fn close_returning(&mut self, q: ObjectId)
         ensures done { self.new ≡ requests.close_returning self.old q.0 }
         ensures size { length self.new.all ≡ length self.old.all }
     {
-        if self.returns_from(q) {
+        if self.returns_to(q) {
             self.close_part(ClosedPart::Returning(q));
         }
     }
 
-    /// What waits in a queue or returns from it is to be completed with CANCELLED. It goes over all
+    /// What waits in a queue or returns to it is to be completed with CANCELLED. It goes over all
     /// requests.
     pub fn close(&mut self, q: ObjectId)
         ensures done { self.new ≡ requests.close self.old q.0 }

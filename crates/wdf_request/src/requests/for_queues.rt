@@ -6,7 +6,7 @@ ghost use Rattle.wdf_maps.specs.Counts.{is_at};
 ghost use Rattle.wdf_model.specs.declared.room.TheConstants.{OBJECTS};
 ghost use Rattle.wdf_sets.specs.Nexts.{IsNext, NoneFrom};
 ghost use Rattle.wdf_request.specs.Closing.{due_requests};
-ghost use Rattle.wdf_request.specs.ForQueues.{due_from, has_due, has_returning, returning_requests, returning_from};
+ghost use Rattle.wdf_request.specs.ForQueues.{due_from, has_due, has_returning, returning_requests, returning_to};
 ghost use Rattle.wdf_request.specs.Keys as keys;
 
 use super::{Requests, is_for};
@@ -15,7 +15,7 @@ use wdf_base::ObjectId;
 use wdf_maps::object_at;
 use wdf_model::{OBJECTS, Request};
 
-/// How many requests return from a queue, by a look at all of them.
+/// How many requests return to a queue, by a look at all of them.
 fn count_returning(all: &[Request], q: ObjectId) -> usize
     ensures value { result ≡ count_by (λ r. is_at q.0 (keys.returning_queue r.place)) all.now }
     ensures small { result ≤ length all.now }
@@ -57,9 +57,9 @@ impl Requests {
         object_at(self.returns.from(from.0))
     }
 
-    /// How many requests are Returning from a queue.
-    pub fn returning_from_len(&self, q: ObjectId) -> u32
-        ensures { result ≡ length (returning_from self.now q.0) }
+    /// How many requests are Returning to a queue.
+    pub fn returning_to_len(&self, q: ObjectId) -> u32
+        ensures { result ≡ length (returning_to self.now q.0) }
     {
         if q.0 < OBJECTS {
             self.returning.of(q)
@@ -69,7 +69,7 @@ impl Requests {
     }
 
     /// The first queue from an id on to which some request is Returning. It doesn't look at the others.
-    pub fn next_returning_from(&self, from: ObjectId) -> Option<ObjectId>
+    pub fn next_returning_to(&self, from: ObjectId) -> Option<ObjectId>
         ensures { MatchOption result (NoneFrom (has_returning self.now) from.0 OBJECTS) (λ q. IsNext (has_returning self.now) from.0 OBJECTS q.0) }
     {
         self.returning.next(from)

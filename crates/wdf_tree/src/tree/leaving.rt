@@ -1,14 +1,13 @@
 //! The objects whose deletion isn't finished: it was asked, and they aren't gone. No call goes over
 //! all objects.
 
-ghost use Rattle.std.specs.Prelude.{◌≡◌, ◌<◌, ◌&&◌, ◌||◌, MatchOption, Some, find, length, nat_le, option_map, slice_get};
+ghost use Rattle.std.specs.Prelude.{◌≡◌, ◌&&◌, ◌||◌, MatchOption, find, nat_le, option_map};
 ghost use Rattle.std.specs.List.{list_any};
 ghost use Rattle.wdf_base.specs.Lives.{is_asked, is_cleaned};
 ghost use Rattle.wdf_model.specs.Tables.{ids_of};
 ghost use Rattle.wdf_model.specs.parts.Tree as tree;
 ghost use Rattle.wdf_sets.specs.Members.{is_in};
 ghost use Rattle.wdf_sets.specs.Nexts.{IsNext, NoneFrom};
-ghost use Rattle.wdf_tree.specs.Leaving.{asked_of, cleaned_of};
 ghost use Rattle.wdf_tree.specs.Turns.{is_counted_cleaned};
 
 use super::Tree;
@@ -51,36 +50,6 @@ impl Tree {
         ensures { MatchOption result (NoneFrom (is_counted_cleaned self.now) from end) (λ o. IsNext (is_counted_cleaned self.now) from end o) }
     {
         first_in_both(&self.cleaned, &self.counted, from, end)
-    }
-
-    /// How many objects there are whose deletion was asked, and whose cleanup is still to come.
-    pub fn asked_len(&self) -> u32
-        ensures { result ≡ length (asked_of self.now) }
-    {
-        self.asked.len()
-    }
-
-    /// The k-th of them, by rising id from 0.
-    pub fn asked_at(&self, k: u32) -> ObjectId
-        requires { k < length (asked_of self.now) }
-        ensures { slice_get (asked_of self.now) k ≡ Some result.0 }
-    {
-        ObjectId(self.asked.at(k).unwrap())
-    }
-
-    /// How many objects there are that are cleaned up, and aren't destroyed yet.
-    pub fn cleaned_len(&self) -> u32
-        ensures { result ≡ length (cleaned_of self.now) }
-    {
-        self.cleaned.len()
-    }
-
-    /// The k-th of them, by rising id from 0.
-    pub fn cleaned_at(&self, k: u32) -> ObjectId
-        requires { k < length (cleaned_of self.now) }
-        ensures { slice_get (cleaned_of self.now) k ≡ Some result.0 }
-    {
-        ObjectId(self.cleaned.at(k).unwrap())
     }
 
     /// Whether some deletion isn't finished.

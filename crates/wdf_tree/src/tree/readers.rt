@@ -94,7 +94,7 @@ impl Tree {
     }
 
     /// What a context cell of an object holds; the number 0 for a cell that isn't there.
-    pub fn get(&self, o: ObjectId, k: u64) -> Value
+    pub fn cell_of(&self, o: ObjectId, k: u64) -> Value
         ensures { result ≡ tree.cell_of self.now o.0 k }
     {
         value_at(&self.nodes.get(o.0).cells, k)

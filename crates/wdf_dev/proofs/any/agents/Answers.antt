@@ -1,7 +1,7 @@
 -- One agent more.
 use Rattle.std.proofs.Common.{refl, ◌≡◌, ◌+◌, arith}
 use Rattle.std.proofs.lemmas.List.FromFn.{map-range_with_len_more}
-use Rattle.wdf_model.specs.agents.AnyAgent.{agent_at}
+use Rattle.wdf_dev.specs.Agents.{agent_at}
 use Rattle.wdf_dev.proofs.any.agents.Goals as goal
 
 pub loop-agent-preserved : goal.loop-agent-preserved

@@ -1,7 +1,7 @@
 -- The agents so far are those with the first numbers.
 use Rattle.std.proofs.Common.{◌≡◌, map}
 use Rattle.std.specs.List.{range_with_len}
-use Rattle.wdf_model.specs.agents.AnyAgent.{agent_at}
+use Rattle.wdf_dev.specs.Agents.{agent_at}
 use Rattle.wdf_dev.proofs.any.agents.Given as goal
 
 abbrev pub invariant-loop-agent : goal.invariant-loop-agent

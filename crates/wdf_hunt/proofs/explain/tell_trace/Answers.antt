@@ -1,6 +1,6 @@
 -- What the verdict says of the trace.
 use Rattle.std.proofs.Common.{subst, ◌∙◌}
-use Rattle.wdf_model.specs.agents.AnyAgent.{agent_meaning}
+use Rattle.wdf_dev.specs.Agents.{agent_meaning}
 use Rattle.wdf_replay.specs.Verdicts.{GivesVerdict, IsLeft}
 use Rattle.wdf_hunt.proofs.Explained.{bad_told, story_told}
 use Rattle.wdf_hunt.proofs.explain.tell_trace.Goals as goal

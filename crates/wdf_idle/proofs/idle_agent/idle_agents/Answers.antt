@@ -2,8 +2,8 @@
 use Rattle.std.proofs.Common.{◌≡◌, ◌+◌, ◌∷◌, length, map, drop, subst}
 use Rattle.std.specs.List.{range_with_len}
 use Rattle.std.specs.Result.{IfOk}
-use Rattle.wdf_model.specs.agents.IdleAgent.{idle_agent_at}
-use Rattle.wdf_model.specs.agents.IdleAgent as agent
+use Rattle.wdf_idle.specs.Agents.{idle_agent_at}
+use Rattle.wdf_idle.specs.declared.idle_agent.IdleAgent.TheVariants as agent
 use Rattle.wdf_idle.proofs.Numbered.{numbered}
 use Rattle.wdf_idle.proofs.idle_agent.idle_agents.Goals as goal
 

@@ -1,6 +1,6 @@
 -- What `run` says, of a plan and of a refusal.
 use Rattle.wdf_base.specs.Resolved.{IsResolved}
-use Rattle.wdf_model.specs.agents.AnyAgent.{agent_meaning}
+use Rattle.wdf_dev.specs.Agents.{agent_meaning}
 use Rattle.wdf_serve.proofs.run.run_input.Goals as goal
 use Rattle.wdf_top.specs.Answers.{Freely, running}
 use Rattle.wdf_top.proofs.Due.{refusal_told, run_told}

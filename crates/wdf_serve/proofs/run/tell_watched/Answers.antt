@@ -1,6 +1,6 @@
 -- The one run that was watched has ended, and its text was said; where there was no memory, the sink is as it was.
 use Rattle.std.proofs.Common.{inr, refl}
-use Rattle.wdf_model.specs.agents.AnyAgent.{agent_meaning}
+use Rattle.wdf_dev.specs.Agents.{agent_meaning}
 use Rattle.wdf_output.specs.Refusals.{no_memory_line}
 use Rattle.wdf_serve.proofs.run.tell_watched.Goals as goal
 use Rattle.wdf_top.specs.Answers.{Freely}

@@ -1,5 +1,5 @@
 -- What `watch` says, of a plan and of a refusal.
-use Rattle.wdf_model.specs.agents.AnyAgent.{agent_meaning}
+use Rattle.wdf_dev.specs.Agents.{agent_meaning}
 use Rattle.wdf_serve.proofs.run.watch_input.Goals as goal
 use Rattle.wdf_top.specs.Answers.{Freely, running}
 use Rattle.wdf_top.proofs.Due.{refusal_told, run_told}

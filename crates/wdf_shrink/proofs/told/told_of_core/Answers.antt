@@ -1,7 +1,7 @@
 -- What is told is of the case's plan.
 use Rattle.std.proofs.Common.{ap, ◌∙◌}
 use Rattle.wdf_base.specs.declared.plan.Plan.{Plan}
-use Rattle.wdf_model.specs.agents.AnyAgent.{agent_meaning}
+use Rattle.wdf_dev.specs.Agents.{agent_meaning}
 use Rattle.wdf_tries.specs.Tries.{kind_of}
 use Rattle.wdf_shrink.proofs.told.told_of_core.Goals as goal
 

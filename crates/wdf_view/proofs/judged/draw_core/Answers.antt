@@ -1,6 +1,6 @@
 -- What the verdict says of the trace.
 use Rattle.std.proofs.Common.{subst}
-use Rattle.wdf_model.specs.agents.AnyAgent.{agent_meaning}
+use Rattle.wdf_dev.specs.Agents.{agent_meaning}
 use Rattle.wdf_replay.specs.Verdicts.{GivesVerdict}
 use Rattle.wdf_view.specs.Causes.{IsAcceptedBy}
 use Rattle.wdf_view.proofs.Shown.{always_ok, memory_cause}

@@ -20,5 +20,5 @@ invariant_of-self c =
       room = rw c.pop_front-front.ensures.rest c.self.invariant.room;
       marks = c.self.invariant.marks;
       rising = rw c.pop_front-front.ensures.rest (marked_drop c.self.inside.rising.items lists q c.self.invariant.rising there);
-      presentable = rw (c.note.ensures, c.is_empty-is_empty.ensures, c.free-is_free.ensures, ← c.self.view_is, c.pop_front-front.ensures.rest) (list_written (queues_in c.self.inside) c.self.inside.presentable q (drop 1 (list_at lists q)) _ c.self.invariant.presentable known there (rw (get_or-set_same lists q (drop 1 (list_at lists q)) [] there) refl));
+      presentable = rw (c.note.ensures, c.is_empty-is_empty.ensures, c.is_free-is_free.ensures, ← c.self.view_is, c.pop_front-front.ensures.rest) (list_written (queues_in c.self.inside) c.self.inside.presentable q (drop 1 (list_at lists q)) _ c.self.invariant.presentable known there (rw (get_or-set_same lists q (drop 1 (list_at lists q)) [] there) refl));
     }

@@ -26,6 +26,6 @@ invariant_of-self c =
       room = rw c.unlink-list.ensures.gone c.self.invariant.room;
       marks = c.self.invariant.marks;
       rising = rw c.unlink-list.ensures.gone (marked_without s.rising.items s.waiting.lists c.args.r.0 c.self.invariant.rising);
-      presentable = rw (c.note.ensures, c.is_empty-is_empty.ensures, c.free-is_free.ensures, ← c.self.view_is, c.unlink-list.ensures.gone)
+      presentable = rw (c.note.ensures, c.is_empty-is_empty.ensures, c.is_free-is_free.ensures, ← c.self.view_is, c.unlink-list.ensures.gone)
           (cancelled (queues_in s) s.waiting s.presentable c.in-Some.q c.args.r.0 _ refl c.owner.ensures.apart (sym c.owner.ensures.list ∙ c.in-Some.is) c.self.invariant.presentable c.self.invariant.lists refl);
     }
