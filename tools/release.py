@@ -37,14 +37,15 @@ import tempfile
 sys.dont_write_bytecode = True
 from program import NAMES, ROOT
 
-# What a release has of the repository beside the programs: for who runs it, and for who reads.
-RUNNING = ("kmdfsim", "VERSION", "tools/command")
+# What a release has of the repository beside the programs, where it is there: for who runs it, and for who reads.
+RUNNING = ("kmdfsim", "VERSION", "tools/command", "kmdfc", "fromc/kmdfc")
 READING = ("README.md", "CHANGELOG.md", "LICENSE-MIT", "LICENSE-APACHE", "docs", "examples", "scenarios", "editors")
 CONTROL = """Package: kmdfsim
 Version: {version}
 Architecture: amd64
 Maintainer: {maintainer}
 Depends: libc6 (>= 2.34), bash, python3 (>= 3.8)
+Recommends: clang
 Section: devel
 Priority: optional
 Description: simulator of driver scripts on a model of KMDF
@@ -218,8 +219,9 @@ def make_package(release: Release, room: str, to: str):
     for folder in ("DEBIAN", "usr/bin", "usr/lib/kmdfsim", "usr/share/doc/kmdfsim"):
         os.makedirs(os.path.join(top, folder))
     lay_out_programs(release, library)
-    for name in NAMES:
-        os.symlink(f"../lib/kmdfsim/{name}", os.path.join(top, "usr/bin", name))
+    for name in (*NAMES, "kmdfc"):
+        if os.path.exists(os.path.join(library, name)):
+            os.symlink(f"../lib/kmdfsim/{name}", os.path.join(top, "usr/bin", name))
     copy(READING, os.path.join(share, "doc/kmdfsim"))
     with open(os.path.join(ROOT, "LICENSE-MIT"), encoding="utf-8") as license_of:
         text = "kmdfsim may be used under the licence below, or under Apache-2.0 (/usr/share/common-licenses/Apache-2.0).\n\n" + license_of.read()

@@ -108,8 +108,7 @@ def word_of(program: Program, name: str) -> Word:
     if others:
         raise WrongCall(f"no word `{name}` here; `{others[0]}` has it: see `./{others[0]} {name} --help`")
     if os.path.isfile(name):
-        first = program.words[0 if program.name != "kmdfsim" else 1].name
-        raise WrongCall(f"no word before the file `{name}`; did you mean `{first} {name}`?")
+        raise WrongCall(f"no word before the file `{name}`; did you mean `{program.usual} {name}`?")
     raise WrongCall(f"no word `{name}`{like(name, [word.name for word in program.words])}")
 
 

@@ -109,7 +109,7 @@ def joined(paths: Sequence[str]) -> bytes:
 def do(call: Call, program: str) -> int:
     """Does a word that the program itself knows, and answers the status."""
     words = [program, *call.proved()]
-    if not call.waits_for_input() and call.word.reads is Reads.NOTHING:
+    if call.word.reads is Reads.NOTHING:
         return done(words, None, call, call.program.name)
     if not call.files:
         tell_terminal(call)

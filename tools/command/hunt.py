@@ -12,8 +12,11 @@ from .call import Call, WrongCall, is_number
 from .words import QUIET, REFUSED
 
 LAST_SEED, MOST = 2**64 - 1, 2**32 - 1
-# The first piece, how many times as large the next one may be, the largest one, and how long a piece should take, in seconds.
-FIRST, GROWTH, LARGEST, GOAL = 16, 8, 1 << 20, 0.5
+# The first piece, which is also the least, and the largest.
+FIRST, LARGEST = 16, 1 << 20
+# A piece that takes less than so many seconds is quick, or short; after one that takes more it is long. (On a busy machine the start of a
+# program may take a second, so a piece that is longer than it should be isn't made much smaller.)
+QUICK, SHORT, LONG = 0.5, 2.0, 8.0
 # So many tables are kept before they are added up.
 KEPT = 64
 
@@ -97,11 +100,11 @@ class Hunt:
 
     def next_size(self, size: int, took: float) -> int:
         """How large the next piece should be."""
-        wanted = min(int(size * GOAL / max(took, 0.001)), size * GROWTH, LARGEST)
+        wanted = size * 4 if took < QUICK else size * 2 if took < SHORT else size // 2 if took > LONG else size
         if self.limits.seconds is not None:
             left = max(self.limits.seconds - self.spent(), 0)
             wanted = min(wanted, int(size * left / max(took, 0.001)))
-        return max(1, min(wanted, self.left()))
+        return min(max(wanted, FIRST), LARGEST, self.left())
 
     def run_pieces(self) -> None:
         """Runs pieces until the range or the time is over."""

@@ -26,7 +26,7 @@ def done(call: Call) -> int:
     if word.name == "help":
         return help_of(name, [call.choice])
     if word.name == "prove":
-        running.become([running.launcher(name), "prove"], None)
+        running.become([running.launcher(name), "prove"])
     if word.name == "completion":
         from . import completion
 
@@ -53,7 +53,7 @@ def served(name: str, words: List[str]) -> int:
     if asks_for_help(words):
         return help_of(name, words)
     if "--version" in words:
-        running.become([running.launcher(name), "--version"], None)
+        running.become([running.launcher(name), "--version"])
     return done(parsed(PROGRAMS[name], words))
 
 

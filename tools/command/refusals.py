@@ -46,11 +46,15 @@ def refusal(words: List[str], given: running.Input, status: int) -> str:
     return line or f"refused: {STATUSES[status]} (status {status}); the line that says why is on standard output"
 
 
+def is_seen() -> bool:
+    """Whether what is on standard output is seen where standard error is: on a terminal, or in the same file."""
+    return sys.stdout.isatty() or os.path.samestat(os.fstat(1), os.fstat(2))
+
+
 def tell(words: List[str], given: running.Input, status: int, of: str) -> None:
-    """Says on standard error why a program refused something, where standard output is no terminal and another file."""
-    if status not in REFUSED or sys.stdout.isatty() or os.path.samestat(os.fstat(1), os.fstat(2)):
-        return
-    print(f"{of}: {refusal(words, given, status)}", file=sys.stderr)
+    """Says on standard error why a program refused something, where that isn't seen."""
+    if status in REFUSED and not is_seen():
+        print(f"{of}: {refusal(words, given, status)}", file=sys.stderr)
 
 
 def tell_wrong(typed: str, why: object) -> None:

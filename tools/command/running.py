@@ -47,7 +47,7 @@ def launcher(name: str) -> str:
 
 def program_of(name: str) -> str:
     """The path of a program that can be run; it is built first where it isn't there. Ends where it can't be built."""
-    found = subprocess.run([launcher(name), "--build"], stdin=subprocess.DEVNULL, stdout=subprocess.PIPE, check=False)
+    found = subprocess.run([launcher(name), "--build", "--first"], stdin=subprocess.DEVNULL, stdout=subprocess.PIPE, check=False)
     if found.returncode:
         sys.exit(found.returncode)
     return found.stdout.decode(errors="surrogateescape").rstrip("\n")
@@ -72,19 +72,22 @@ def start(words: List[str], given: Input, output: Union[int, BinaryIO, None], mo
         if chosen:
             os.sched_setaffinity(0, chosen)
 
-    if isinstance(given, str):
-        with open(given, "rb") as file:
-            return subprocess.Popen(words, stdin=file, stdout=output, preexec_fn=before, start_new_session=apart)
+    source = opened(given)
+    try:
+        return subprocess.Popen(words, stdin=source, stdout=output, preexec_fn=before, start_new_session=apart)
+    finally:
+        if source:
+            source.close()
+
+
+def opened(given: Input) -> Optional[BinaryIO]:
+    """What a program is to read: a file, or one without a name that has the text; None for standard input."""
     if given is None:
-        return subprocess.Popen(words, stdout=output, preexec_fn=before, start_new_session=apart)
-    with memory_file(given) as held:
-        return subprocess.Popen(words, stdin=held, stdout=output, preexec_fn=before, start_new_session=apart)
-
-
-def memory_file(text: bytes) -> BinaryIO:
-    """A file without a name that has this text, to be read from its beginning."""
+        return None
+    if isinstance(given, str):
+        return open(given, "rb")
     held = os.fdopen(os.memfd_create("input"), "w+b")
-    held.write(text)
+    held.write(given)
     held.flush()
     held.seek(0)
     return held
@@ -114,16 +117,8 @@ def answer(words: List[str], given: Input, most: Optional[int] = None, apart: bo
         raise
 
 
-def become(words: List[str], given: Input, most: Optional[int] = None) -> NoReturn:
-    """Becomes a program, with this input as its standard input."""
-    if isinstance(given, str):
-        os.dup2(os.open(given, os.O_RDONLY), 0)
-    elif given is not None:
-        held = memory_file(given)
-        os.dup2(held.fileno(), 0)
-    chosen = processors(most)
-    if chosen:
-        os.sched_setaffinity(0, chosen)
+def become(words: List[str]) -> NoReturn:
+    """Becomes a program, with its standard input as it is."""
     sys.stdout.flush()
     sys.stderr.flush()
     os.execv(words[0], words)

@@ -60,7 +60,7 @@ def refuse(call: Call, status: int, line: bytes) -> int:
     """Writes why there is no run, as the program does."""
     sys.stdout.buffer.write(line)
     sys.stdout.flush()
-    if not sys.stdout.isatty() and not os.path.samestat(os.fstat(1), os.fstat(2)):
+    if not refusals.is_seen():
         print(f"{call.program.name}: {call.files[0]}: {line.decode('ascii', errors='replace').strip()}", file=sys.stderr)
     return status
 

@@ -61,15 +61,16 @@ def due_refusal() -> str:
     return text_of(BAD).split("\n")[0].partition(": ")[2]
 
 
-def pieces_of(number: int) -> List[str]:
-    """The pieces of a hunt that go on: processes that it has started with the word `seeds`."""
-    found = []
-    with open(f"/proc/{number}/task/{number}/children", encoding="ascii") as file:
+def running_below(process: "subprocess.Popen[str]", path: str) -> Set[str]:
+    """The processes that a process has started and that have become the program at this path."""
+    found: Set[str] = set()
+    with open(f"/proc/{process.pid}/task/{process.pid}/children", encoding="ascii") as file:
         children = file.read().split()
     for child in children:
         try:
             with open(f"/proc/{child}/cmdline", "rb") as words:
-                found += [child] * (b"seeds" in words.read().split(b"\0"))
+                is_it = os.path.basename(words.read().split(b"\0")[0]) == os.path.basename(os.fsencode(path))
+            found.update({child} if is_it else ())
         except OSError:  # (it is gone)
             pass
     return found
@@ -117,7 +118,7 @@ class Help(unittest.TestCase):
         for line in ("kmdfsim --version", "kmdfsim order --version"):
             done = called(line)
             self.assertEqual(done.returncode, 0)
-            self.assertRegex(done.stdout, rf"^kmdfsim {version} \((proved|NOT PROVED: .*)\)\n$")
+            self.assertRegex(done.stdout, rf"^kmdfsim {version} \((proved|NOT PROVED: .*|not built so far: .*)\)\n$")
 
 
 class Table(Built):
@@ -367,11 +368,12 @@ class Hunts(Built):
             self.assertIn(f"stopped: the table is of {table.count} seeds of the 4000000000", seen.screen)
 
     def test_stopped_over_standard_input(self) -> None:
-        words = ["./kmdfhunt", "seeds", "0", "4000000000"]
-        with open(os.path.join(ROOT, BUG), "rb") as file, subprocess.Popen(words, cwd=ROOT, stdin=file, stdout=subprocess.PIPE, stderr=subprocess.DEVNULL, text=True) as hunt:
+        words, program = ["./kmdfhunt", "seeds", "0", "4000000000"], running.program_of("kmdfhunt")
+        outputs = {"stdout": subprocess.PIPE, "stderr": subprocess.DEVNULL}
+        with open(os.path.join(ROOT, BUG), "rb") as file, subprocess.Popen(words, cwd=ROOT, stdin=file, text=True, **outputs) as hunt:  # type: ignore[call-overload]
             pieces: Set[str] = set()
             while len(pieces) < 3 and hunt.poll() is None:
-                pieces.update(pieces_of(hunt.pid))
+                pieces |= running_below(hunt, program)
                 time.sleep(0.01)
             for _ in range(2):  # (as `timeout` does)
                 hunt.send_signal(signal.SIGTERM)
@@ -431,14 +433,14 @@ class HandedOn(Built):
     """The proved words with standard input: nothing is changed, and a signal ends the program."""
 
     def test_signals(self) -> None:
+        program = running.program_of("kmdfsim")
         for how in (signal.SIGTERM, signal.SIGKILL):
-            launcher = subprocess.Popen(["./kmdfhunt", "seeds", "0", "4000000000"], cwd=ROOT, stdin=subprocess.PIPE, stdout=subprocess.PIPE)
-            assert launcher.stdin and launcher.stdout
-            with launcher:
-                launcher.stdin.write(text_of(BUG).encode())
-                launcher.stdin.close()
+            with subprocess.Popen(["./kmdfsim", "order"], cwd=ROOT, stdin=subprocess.PIPE, stdout=subprocess.PIPE, text=True) as launcher:
+                assert launcher.stdin and launcher.stdout
+                while launcher.poll() is None and not running_below(launcher, program):
+                    time.sleep(0.01)  # (the program waits for its input)
                 launcher.send_signal(how)
-                self.assertEqual(launcher.stdout.read(), b"")  # (it ends where the program has closed it)
+                self.assertEqual(launcher.stdout.read(), "")  # (which comes to its end where the program has ended too)
             self.assertEqual(launcher.returncode, -how)
 
     def test_statuses(self) -> None:

@@ -80,6 +80,7 @@ class Program(NamedTuple):
     meaning: str
     more: Tuple[str, ...]
     words: Tuple[Word, ...]
+    usual: str  # the word that is meant where a file stands alone
     examples: Tuple[Example, ...]
 
     def word(self, name: str) -> Optional[Word]:
@@ -222,6 +223,7 @@ SIMULATOR = Program(
         ),
         *OF_ALL,
     ),
+    "order",
     (
         Example("./kmdfsim order examples/first-read.kmdf", "runs a scenario, and writes its trace"),
         Example("./kmdfsim seed 10 examples/echo-bug.kmdf", "runs it in another order, which ends in a fault"),
@@ -299,6 +301,7 @@ HUNTER = Program(
         ),
         *OF_ALL,
     ),
+    "seeds",
     (
         Example("./kmdfhunt seeds 0 500 examples/echo-bug.kmdf", "how five hundred runs end"),
         Example("./kmdfhunt explain 10 examples/echo-bug.kmdf", "why seed 10 ends in a fault"),
@@ -346,6 +349,7 @@ VIEWER = Program(
         ),
         *OF_ALL,
     ),
+    "html",
     WAY_EXAMPLES,
 )
 
