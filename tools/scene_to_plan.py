@@ -598,7 +598,7 @@ STUCK_OVER = "use Rattle.law_stuck_worked.proofs.Over.{stuck_is_over}\n"
 STACK_HEAD = """-- Worked runs with stacks of devices, computed from the definitions. Made by tools/scene_to_plan.py.
 use Rattle.std.proofs.Common.{[], refl}
 use Rattle.wdf_base.specs.declared.event.Ending.TheVariants as ending
-use Rattle.wdf_model.specs.agents.StackAgent.{stack_meaning}
+use Rattle.wdf_model.specs.agents.StackAgent.{stack_agents}
 use Rattle.wdf_model.specs.rules.Script.{value_of}
 use Rattle.law_machine_base.specs.Course.{run_with}
 use Rattle.law_machine_base.proofs.Course.{worked_with}
@@ -612,7 +612,7 @@ use Rattle.law_machine_worked.proofs.Ended.{over}
 IDLE_HEAD = """-- Worked runs in which idle devices sleep, computed from the definitions. Made by tools/scene_to_plan.py.
 use Rattle.std.proofs.Common.{refl}
 use Rattle.wdf_base.specs.declared.event.Ending.TheVariants as ending
-use Rattle.wdf_model.specs.agents.IdleAgent.{idle_meaning}
+use Rattle.wdf_model.specs.agents.IdleAgent.{idle_agents}
 use Rattle.wdf_model.specs.rules.Script.{value_of}
 use Rattle.law_machine_base.specs.Course.{run_with}
 use Rattle.law_machine_base.proofs.Course.{worked_with}
@@ -658,7 +658,7 @@ class Run:
             f"pub {self.label} : IsStackRun {told} {waits}",
             "unfolding run_with value_of keeps_stack_laws passings works",
             f"{self.label} = record {{",
-            f"  worked = worked_with {self.label}_plan stack_meaning {len(self.events)} {self.label}_events {self.ending} refl refl (over {self.ending} refl);",
+            f"  worked = worked_with {self.label}_plan stack_agents {len(self.events)} {self.label}_events {self.ending} refl refl (over {self.ending} refl);",
             "  stuck = refl;",
             "  keeps = refl;",
             "}",
@@ -683,7 +683,7 @@ class Run:
             f"pub {self.label} : IsIdleRun {plan} {events} {self.ending}",
             "unfolding run_with value_of time_after awake_rest asleep_rest is_held ever",
             f"{self.label} = record {{",
-            f"  worked = worked_with {plan} idle_meaning {len(self.events)} {events} {self.ending} refl refl (over {self.ending} refl);",
+            f"  worked = worked_with {plan} idle_agents {len(self.events)} {events} {self.ending} refl refl (over {self.ending} refl);",
             "  kept = refl;",
             "}",
         ])
